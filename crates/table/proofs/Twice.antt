@@ -171,18 +171,29 @@ turned-code (suc zero) l = omega arith
 turned-code (suc (suc zero)) l = omega arith
 turned-code (suc (suc (suc n))) l = absurd (omega arith)
 
+sound-codes : (t : D.Table) → soundOf t ≡ true → (i : ℕ) → i < t .states → getD (t .sort) i 0 ≤ 2
+unfolding soundOf known
+sound-codes t e i l =
+    leb-true (getD (t .sort) i 0) 2
+    (every-upto (λ c. leb c 2) (t .states) (λ i. getD (t .sort) i 0) (both (known t) (T.sound (view t)) e .0) i l)
+
 pub turned-sound : (t : D.Table) → soundOf t ≡ true → soundOf (turned t) ≡ true
 unfolding soundOf known turned
 turned-sound t e =
-    let p = both (known t) (T.sound (view t)) e in
-    let codes : (i : ℕ) → i < t .states → getD (t .sort) i 0 ≤ 2 = λ i l.
-    leb-true (getD (t .sort) i 0) 2 (every-upto (λ c. leb c 2) (t .states) (λ i. getD (t .sort) i 0) (p .0) i l) in
     join
     (upto-every (λ c. leb c 2) (t .states) (λ i. getD (map oppositeOf (t .sort)) i 0)
-    (λ i l. le-leb (getD (map oppositeOf (t .sort)) i 0) 2 (rw (getD-map (t .sort) i) (turned-code (getD (t .sort) i 0) (codes i l)))))
-    (ap T.sound (view-turned t codes) ∙ dual-sound (view t) ∙ p .1)
+    (λ i l. le-leb (getD (map oppositeOf (t .sort)) i 0) 2 (rw (getD-map (t .sort) i) (turned-code (getD (t .sort) i 0) (sound-codes t e i l)))))
+    (ap T.sound (view-turned t (sound-codes t e)) ∙ dual-sound (view t) ∙ both (known t) (T.sound (view t)) e .1)
 
--- asked of the dual of a sound table, the dual is that table
-pub dual-of-dual : (t : D.Table) → soundOf t ≡ true → dualOf (turned t) ≡ record { question = 0; table = t }
+-- of a sound table the call gives document 01's dual
+pub dual-view : (t : D.Table) → soundOf t ≡ true → view (dualOf t .table) ≡ T.dual (view t)
 unfolding dualOf
-dual-of-dual t e = ap (answered (turned t)) (turned-sound t e) ∙ ap (λ x. record { question = 0; table = x }) (turned-twice t)
+dual-view t e = ap (λ b. view (answered t b .table)) e ∙ view-turned t (sound-codes t e)
+
+-- asked twice, the call gives a sound table back
+pub dual-of-dual : (t : D.Table) → soundOf t ≡ true → dualOf (dualOf t .table) ≡ record { question = 0; table = t }
+unfolding dualOf
+dual-of-dual t e =
+    ap (λ b. dualOf (answered t b .table)) e
+    ∙ ap (answered (turned t)) (turned-sound t e)
+    ∙ ap (λ x. record { question = 0; table = x }) (turned-twice t)
