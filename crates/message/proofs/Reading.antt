@@ -19,7 +19,7 @@ use Rattle.table.specs.Scans.{all}
 use Rattle.table.proofs.Lists.{both, join, alike, refuted, left-fails, upto-length, every-upto, upto-every, all-at, all-by}
 use Rattle.table.proofs.Labels.{byte, label-bytes}
 use Rattle.table.proofs.Facts.{upto-at, label-eq, same-eq, same-refl}
-use Rattle.message.specs.Message.{Value, number-of, first-number, number-at, pair-up, count-of, values-of, text-bytes, announced, whole, legal-value, legal-values, exact, front, refusal, well-formed, word-from, label-word, has-label, frontOf}
+use Rattle.message.specs.Message.{Value, number-of, first-number, number-at, pair-up, count-of, values-of, text-bytes, announced, read, whole, legal-value, legal-values, exact, front, refusal, well-formed, word-from, label-word, has-label, frontOf}
 
 -- ---- bytes by their places
 
@@ -311,7 +311,12 @@ module _ (bytes : List ℕ) where
 
   pub front-parts : front bytes ≡ 0 → Whole bytes × (legal-values bytes ≡ true)
   unfolding front
-  front-parts e = ?
+  front-parts e = let p = go (whole bytes) (legal-values bytes) e in (whole-parts (p .0), p .1)
+    where
+      go : (a b : Bool) → _≡_ {A = ℕ} (cond a (cond b 0 14) 13) 0 → (a ≡ true) × (b ≡ true)
+      go true true e = (refl, refl)
+      go true false e = absurd (omega arith)
+      go false b e = absurd (omega arith)
 
   pub refusal-front : refusal bytes ≡ cond (eqb (front bytes) 0) (cond (exact bytes) 0 15) (front bytes)
   unfolding refusal front
@@ -331,3 +336,110 @@ module _ (bytes : List ℕ) where
       go true true false = ((λ e. absurd (false≢true e)), (λ e. absurd (omega arith)))
       go true false c = ((λ e. absurd (false≢true e)), (λ e. absurd (omega arith)))
       go false b c = ((λ e. absurd (false≢true e)), (λ e. absurd (omega arith)))
+
+  -- the three answers of all the questions, where the front's are known
+  pub refusal-early : (front bytes ≡ 0 → ⊥) → front bytes ≡ refusal bytes
+  refusal-early n = sym (refusal-front ∙ ap (λ t. cond t (cond (exact bytes) 0 15) (front bytes)) (ne-eqb (front bytes) 0 n))
+
+  module _ (e : front bytes ≡ 0) where
+    pub front-length : frontOf bytes .length ≡ announced bytes
+    unfolding frontOf
+    front-length = ap (λ t. cond t (announced bytes) 0) (eq-eqb (front bytes) 0 e)
+
+    refusal-late : refusal bytes ≡ cond (exact bytes) 0 15
+    refusal-late = refusal-front ∙ ap (λ t. cond t (cond (exact bytes) 0 15) (front bytes)) (eq-eqb (front bytes) 0 e)
+
+    pub refusal-length : (length bytes ≡ announced bytes → ⊥) → refusal bytes ≡ 15
+    unfolding exact
+    refusal-length n = refusal-late ∙ ap (λ t. cond t 0 15) (ne-eqb (length bytes) (announced bytes) n)
+
+    pub refusal-none : length bytes ≡ announced bytes → refusal bytes ≡ 0
+    unfolding exact
+    refusal-none l = refusal-late ∙ ap (λ t. cond t 0 15) (eq-eqb (length bytes) (announced bytes) l)
+
+-- ---- a message cut off the front of longer bytes
+
+number-cut : (bytes : List ℕ) (n at : ℕ) → at + 4 ≤ n → n ≤ length bytes → number-at (take n bytes) at ≡ number-at bytes at
+number-cut bytes n at l m =
+    number-word (take n bytes) at inside
+    ∙ ap (λ x. (x + origin) % 4294967296)
+    (omega
+    (arith,
+    word-places (take n bytes) at inside,
+    word-places bytes at (omega arith),
+    getD-take n bytes at 0 (omega arith),
+    getD-take n bytes (at + 1) 0 (omega arith),
+    getD-take n bytes (at + 2) 0 (omega arith),
+    getD-take n bytes (at + 3) 0 (omega arith)))
+    ∙ sym (number-word bytes at (omega arith))
+  where
+    inside : at + 4 ≤ length (take n bytes)
+    inside = omega (arith, length-take-le n bytes m)
+
+-- what 13 and 14 look at is not cut
+module _ (bytes : List ℕ) (n : ℕ) (w : Whole bytes) (room : 9 + 5 * count-of bytes ≤ n) (m : n ≤ length bytes) where
+  cut-length : length (take n bytes) ≡ n
+  cut-length = length-take-le n bytes m
+
+  cut-count : count-of (take n bytes) ≡ count-of bytes
+  unfolding count-of
+  cut-count = getD-take n bytes 8 0 (omega arith)
+
+  cut-arrays : 9 + 5 * count-of (take n bytes) ≤ length (take n bytes)
+  cut-arrays = omega (arith, cut-length, cut-count)
+
+  cut-label : take 8 (take n bytes) ≡ take 8 bytes
+  cut-label = take-take 8 n bytes (omega arith)
+
+  pub cut-values : values-of (take n bytes) ≡ values-of bytes
+  cut-values =
+      ext-getD v (values-of (take n bytes)) (values-of bytes) (values-length (take n bytes) cut-arrays ∙ cut-count ∙ sym (values-length bytes (w .arrays)))
+      (λ f l. here f (omega (arith, values-length (take n bytes) cut-arrays, cut-count)))
+    where
+      v : Value
+      v = value-at bytes 0
+
+      here : (f : ℕ) → f < count-of bytes → getD (values-of (take n bytes)) f v ≡ getD (values-of bytes) f v
+      here f l =
+          value-by-place (take n bytes) cut-arrays f v (omega (arith, cut-count))
+          ∙ ap₂ (λ a b. record { kind = a; number = b }) (getD-take n bytes (9 + f) 0 (omega arith))
+          (ap (λ c. number-at (take n bytes) (9 + c + 4 * f)) cut-count ∙ number-cut bytes n (9 + count-of bytes + 4 * f) (omega arith) m)
+          ∙ sym (value-by-place bytes (w .arrays) f v l)
+
+  pub cut-whole : Whole (take n bytes)
+  cut-whole = record {
+    nine = omega (arith, cut-length);
+    label = ap legal-label cut-label ∙ w .label;
+    few = omega (arith, cut-count, w .few);
+    arrays = cut-arrays;
+  }
+
+  pub cut-announced : announced (take n bytes) ≡ announced bytes
+  unfolding announced
+  cut-announced = ap₂ (λ c vs. 9 + 5 * c + text-bytes vs) cut-count cut-values
+
+  pub cut-front : legal-values bytes ≡ true → front (take n bytes) ≡ 0
+  unfolding front legal-values
+  cut-front e = simp (parts-whole (take n bytes) cut-whole, cut-values, e)
+
+  -- it says the same
+  pub cut-read : read (take n bytes) ≡ read bytes
+  unfolding read
+  cut-read = ap₂ (λ l vs. record { label = l; values = vs }) cut-label cut-values
+
+-- cut where it ends, a message is well formed, announces its length, and says what the longer bytes say
+module _ (bytes : List ℕ) (n : ℕ) (e : front bytes ≡ 0) (q : n ≡ announced bytes) (m : n ≤ length bytes) where
+  arrays-within : 9 + 5 * count-of bytes ≤ n
+  unfolding announced
+  arrays-within = omega arith
+
+  pub message-announced : announced (take n bytes) ≡ n
+  message-announced = cut-announced bytes n (front-parts bytes e .0) arrays-within m ∙ sym q
+
+  pub message-well-formed : refusal (take n bytes) ≡ 0
+  message-well-formed =
+      let p = front-parts bytes e in
+      refusal-none (take n bytes) (cut-front bytes n (p .0) arrays-within m (p .1)) (length-take-le n bytes m ∙ sym message-announced)
+
+  pub message-read : read (take n bytes) ≡ read bytes
+  message-read = cut-read bytes n (front-parts bytes e .0) arrays-within m
