@@ -4,12 +4,12 @@ use mathlib.Core.Path.{_≡_, refl, sym, ap, ap₂, subst, _∙_}
 use mathlib.Core.Bool.{Bool, true, false, _&&_, cond, false≢true}
 use mathlib.Core.List.{List, [], _∷_, _++_}
 use mathlib.Core.Logic.{_↔_}
-use Prim.Native.Nat.{ℕ, zero, suc, _+_, _*_, _-_, _/_, _%_, _≤_, _<_, zero-le, suc-le-suc}
+use Prim.Native.Nat.{ℕ, zero, suc, _+_, _*_, _-_, _%_, _≤_, _<_}
 use native.Mathlib.Nat.{not-suc-le-zero, le-of-suc-le-suc, add-zero}
 use native.Mathlib.Numerals.{add-one}
 use native.Mathlib.Omega.{arith}
-use lib.ListN.{length, getD, take, drop, length-take, length-drop}
-use lib.Seq.{ext-getD, length-take-le, getD-take, getD-drop, drop-drop, take-take, take-suc}
+use lib.ListN.{length, getD, take, drop, length-drop}
+use lib.Seq.{ext-getD, length-take-le, getD-take, getD-drop, drop-drop, take-take}
 use lib.Dec.{leb, eqb}
 use borrow.Author.Tests.{leb-true, le-leb, lt-leb, lt-ltb, eqb-true, eq-eqb, ne-eqb}
 use Rattle.table.specs.Lists.{every, same, upto}
@@ -363,14 +363,15 @@ number-cut : (bytes : List ℕ) (n at : ℕ) → at + 4 ≤ n → n ≤ length b
 number-cut bytes n at l m =
     number-word (take n bytes) at inside
     ∙ ap (λ x. (x + origin) % 4294967296)
-    (omega
-    (arith,
-    word-places (take n bytes) at inside,
-    word-places bytes at (omega arith),
-    getD-take n bytes at 0 (omega arith),
-    getD-take n bytes (at + 1) 0 (omega arith),
-    getD-take n bytes (at + 2) 0 (omega arith),
-    getD-take n bytes (at + 3) 0 (omega arith)))
+    (omega (
+      arith,
+      word-places (take n bytes) at inside,
+      word-places bytes at (omega arith),
+      getD-take n bytes at 0 (omega arith),
+      getD-take n bytes (at + 1) 0 (omega arith),
+      getD-take n bytes (at + 2) 0 (omega arith),
+      getD-take n bytes (at + 3) 0 (omega arith),
+    ))
     ∙ sym (number-word bytes at (omega arith))
   where
     inside : at + 4 ≤ length (take n bytes)
