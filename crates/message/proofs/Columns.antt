@@ -4,22 +4,22 @@ use mathlib.Core.Path.{_≡_, refl, sym, ap, ap₂, _∙_}
 use mathlib.Core.Bool.{Bool, true, false, _&&_, cond}
 use mathlib.Core.List.{List, [], _∷_, _++_, map, append-assoc, append-nil}
 use mathlib.Core.Option.{Option, none, some}
-use Prim.Native.Nat.{ℕ, zero, suc, _+_, _*_, _-_, _≤_, _<_, zero-le}
-use native.Mathlib.Nat.{add-zero, zero-add, add-assoc, add-comm}
+use Prim.Native.Nat.{ℕ, zero, suc, _+_, _*_, _≤_, _<_, zero-le}
+use native.Mathlib.Nat.{zero-add, add-assoc}
 use native.Mathlib.Omega.{arith}
-use lib.ListN.{length, getD, drop, replicate, length-append, length-replicate}
+use lib.ListN.{length, getD, drop, length-append, length-replicate}
 use lib.Dec.{leb, ltb, eqb, eqb·zero-suc, eqb·suc-zero, eqb·suc-suc}
 use borrow.Author.Tests.{leb-true, lt-ltb, le-ltb, le-leb, lt-leb, ne-eqb}
 use Rattle.table.specs.Lists.{upto}
-use Rattle.table.specs.Table as T
 use Rattle.table.specs.View.{labelOf, fieldAt, branchAt, view, soundOf}
-use Rattle.table.specs.declared.Table as D
 use Rattle.table.proofs.Lists.{both, left-fails, upto-length}
-use Rattle.table.proofs.Facts.{Facts, sound-facts, upto-at, branches-of}
-use Rattle.message.specs.Message.{Value, Message, text-bytes}
+use Rattle.table.proofs.Facts.{Facts, upto-at, branches-of}
+use Rattle.message.specs.Message.{Value, text-bytes}
 use Rattle.message.specs.Make.{word-of, words-of, write, chosen, said, made, branch, names-field, exists, asked, Making, opening, making}
 use Rattle.message.specs.Layout.{put, run, laid, sum, is-named, has, number-at, text-at}
 use Rattle.message.proofs.Pieces.{run-length}
+use Rattle.table.specs.Table as T
+use Rattle.table.specs.declared.Table as D
 
 -- ---- a run or a sum from its first piece on
 

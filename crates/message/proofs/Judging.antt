@@ -15,7 +15,7 @@ use Rattle.table.specs.Lists.{every, matched, same}
 use Rattle.table.specs.Table.{Field, Branch, Table, clash, labels-differ, sound}
 use Rattle.table.proofs.Lists.{never, both, join, left-fails, right-fails, decided, refuted}
 use Rattle.table.proofs.Facts.{same-eq, same-refl}
-use Rattle.table.proofs.Parts.{every-getD, Sound, sound-parts}
+use Rattle.table.proofs.Parts.{every-getD, sound-parts}
 use Rattle.message.specs.Message.{Value, Message}
 use Rattle.message.specs.Judge.{same-kind, in-range, holds, names, carries, goes, allows, Judgement, allowed, no-label, other-kinds, out-of-range, first-outside, by-range, judge-branch, judge-among, judge}
 use Rattle.message.specs.Make.{branch}

@@ -3,7 +3,7 @@
 -- Assumes nothing.
 use mathlib.Core.Path.{_≡_, refl, sym, ap, ap₂, _∙_, subst}
 use mathlib.Core.Logic.{⊎-elim}
-use mathlib.Core.Bool.{Bool, true, false, _&&_, false≢true}
+use mathlib.Core.Bool.{true, false, _&&_, false≢true}
 use mathlib.Core.List.{List, [], _∷_, _++_, map}
 use mathlib.Core.Option.{Option, none, some}
 use Prim.Native.Nat.{ℕ, zero, suc, _+_, _*_, _/_, _%_, _≤_, _<_}
@@ -15,7 +15,6 @@ use borrow.Author.Tests.{ltb-true, leb-true, leb-false, le-leb, eqb-true, eq-eqb
 use Rattle.table.specs.Lists.{every, matched}
 use Rattle.table.specs.Table.{Field, Branch, Table, within-kind, upper, label-rest, legal-label, legal-field, sound}
 use Rattle.table.specs.View.{view, known, soundOf}
-use Rattle.table.specs.declared.Table as D
 use Rattle.table.proofs.Lists.{both, join, decided}
 use Rattle.table.proofs.Parts.{Legal, sound-parts}
 use Rattle.message.specs.Message.{Value, number-of, first-number, pair-up, count-of, values-of, read, text-bytes, announced, whole, legal-value, legal-values, exact, well-formed}
@@ -23,6 +22,7 @@ use Rattle.message.specs.Judge.{same-kind, in-range, holds, allows}
 use Rattle.message.specs.Make.{word-of, words-of, write, chosen, said, made, branch, names-field, exists, opening, making}
 use Rattle.message.proofs.Judging.{allows-by}
 use Rattle.message.proofs.Columns.{says-9, says-18, says-16, says-length}
+use Rattle.table.specs.declared.Table as D
 
 -- ---- four bytes
 

@@ -174,7 +174,7 @@ pub record Facts (t : D.Table) : Type 0 where
   pub differ : (i j : ℕ) → i < j → j < t .branches → getD (t .owner) i 0 ≡ getD (t .owner) j 0 → getD (t .label) i 0 ≡ getD (t .label) j 0 → ⊥
 
 module _ (t : D.Table) where
-  pub sorts-of : length (view t .sorts) ≡ t .states
+  sorts-of : length (view t .sorts) ≡ t .states
   unfolding view
   sorts-of = upto-length (t .states) (λ i. sortOf (getD (t .sort) i 0))
 
