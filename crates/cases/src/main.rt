@@ -8,6 +8,7 @@ use table::Table;
 
 mod line;
 mod messages;
+mod numbers;
 mod tables;
 
 // How many lines there were, how many of them were cases, and how many of these went wrong.

@@ -6,18 +6,19 @@
 // An edit is three numbers, column, index and value. Columns: 0 states, 1 branches, 2 sort, 3 owner, 4 target, 5 fields,
 // 6 label, 7 kind, 8 low, 9 high.
 ghost use Prim.Native.Nat.{_≤_};
+use super::numbers;
 use table::Table;
 
 // The table with the edits that stand from place `from` up to place `to`.
-pub fn edited(t: Table, numbers: &[u64; 9216], from: usize, to: usize) -> Table {
+pub fn edited(t: Table, given: &[u64; 9216], from: usize, to: usize) -> Table {
     let mut d = t;
     let mut at = from;
     while at < to {
         if 9213 < at {
             return d;
         }
-        let index = (numbers[at + 1] % 512) as usize;
-        d = with_entry(d, numbers[at], index, numbers[at + 2]);
+        let index = (given[at + 1] % 512) as usize;
+        d = with_entry(d, given[at], index, given[at + 2]);
         at += 3;
     }
     d
@@ -96,14 +97,12 @@ fn with_field_entry(t: Table, column: u64, index: usize, value: u64) -> Table
 
 // 9 where the table is not sound, else 0.
 pub fn sound(t: Table, got: &mut [u64; 9216]) -> usize {
-    got[0] = if table::sound(t) { 0 } else { 9 };
-    1
+    numbers::put(got, 0, if table::sound(t) { 0 } else { 9 })
 }
 
 pub fn sound_at(t: Table, position: u64, got: &mut [u64; 9216]) -> usize {
     let p = (position % 256) as u8;
-    got[0] = if table::sound_at(t, p) { 0 } else { 9 };
-    1
+    numbers::put(got, 0, if table::sound_at(t, p) { 0 } else { 9 })
 }
 
 pub fn dual(t: Table, got: &mut [u64; 9216]) -> usize {
@@ -111,28 +110,23 @@ pub fn dual(t: Table, got: &mut [u64; 9216]) -> usize {
     let d = once.table;
     let twice = table::dual(d);
     let e = twice.table;
-    got[0] = once.question as u64;
-    got[1] = d.states as u64;
-    got[2] = d.branches as u64;
+    let mut at = numbers::put(got, 0, numbers::wide(once.question));
+    at = numbers::put(got, at, numbers::wide(d.states));
+    at = numbers::put(got, at, numbers::wide(d.branches));
     let there = d.sort;
-    put_sorts(there, 3, got);
-    got[7] = e.states as u64;
+    at = put_sorts(there, at, got);
+    at = numbers::put(got, at, numbers::wide(e.states));
     let back = e.sort;
-    put_sorts(back, 8, got);
-    12
+    put_sorts(back, at, got)
 }
 
-// The first four sorts, from place `at` on.
-fn put_sorts(sort: [u8; 32], at: usize, got: &mut [u64; 9216])
-    requires { ⌜ at ≤ 8 ⌝ }
-{
+// The first four sorts, from place `at` on; the next place.
+fn put_sorts(sort: [u8; 32], at: usize, got: &mut [u64; 9216]) -> usize {
+    let mut next = at;
     let mut k: usize = 0;
     while k < 4 {
-        got[at + k] = wide(sort[k]);
+        next = numbers::put(got, next, numbers::wide(sort[k]));
         k += 1;
     }
-}
-
-fn wide(b: u8) -> u64 {
-    b as u64
+    next
 }

@@ -10,10 +10,10 @@ use Rattle.cases.proofs.tables.edited.Lts as lts
 use Rattle.cases.proofs.tables.with_entry.Reads as with-entry-reads
 
 abbrev Inv-loop : tie.InvT-loop
-Inv-loop numbers from to d₀ at₀ d at = Unit {0}
+Inv-loop given from to d₀ at₀ d at = Unit {0}
 
 abbrev μ-loop : tie.MeasureT-loop
-μ-loop numbers from to d₀ at₀ d at = to - at
+μ-loop given from to d₀ at₀ d at = to - at
 
 loop-holds : tie.Need-loop-holds Inv-loop μ-loop
 loop-holds c = search needs

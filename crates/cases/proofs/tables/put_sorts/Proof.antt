@@ -7,13 +7,14 @@ use Rattle.cases.proofs.tables.put_sorts.Statement.{statement}
 use Rattle.cases.proofs.tables.put_sorts.Tie as tie
 use Rattle.cases.proofs.tables.put_sorts.Reads as reads
 use Rattle.cases.proofs.tables.put_sorts.Lts as lts
-use Rattle.cases.proofs.tables.wide.Reads as wide-reads
+use Rattle.cases.proofs.numbers.put.Reads as put-reads
+use Rattle.cases.proofs.numbers.wide.Reads as wide-reads
 
 abbrev Inv-loop : tie.InvT-loop
-Inv-loop at got₀ sort k₀ got k = (k ≤ 4) × (at ≤ 8)
+Inv-loop at got₀ sort next₀ k₀ got next k = (k ≤ 4)
 
 abbrev μ-loop : tie.MeasureT-loop
-μ-loop at got₀ sort k₀ got k = 4 - k
+μ-loop at got₀ sort next₀ k₀ got next k = 4 - k
 
 loop-holds : tie.Need-loop-holds Inv-loop μ-loop
 loop-holds c = search needs
@@ -24,14 +25,8 @@ array-read-wide c = search needs
 wide-requires : tie.Need-wide-requires Inv-loop μ-loop
 wide-requires c κs = search needs
 
-add-got : tie.Need-add-got Inv-loop μ-loop
-add-got c = search needs
-
-mul-got : tie.Need-mul-got Inv-loop μ-loop
-mul-got c = search needs
-
-element-write-got : tie.Need-element-write-got Inv-loop μ-loop
-element-write-got c = search needs
+put-requires : tie.Need-put-requires Inv-loop μ-loop
+put-requires c κs = search needs
 
 add-k : tie.Need-add-k Inv-loop μ-loop
 add-k c = search needs
@@ -54,9 +49,7 @@ put-sorts-spec =
     loop-holds
     array-read-wide
     wide-requires
-    add-got
-    mul-got
-    element-write-got
+    put-requires
     add-k
     loop-less
     loop-again
