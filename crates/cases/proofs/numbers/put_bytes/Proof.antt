@@ -1,0 +1,60 @@
+-- `cases::numbers/put_bytes` meets its contract. Assumes nothing.
+use mathlib.Core.Path.{_≡_}
+use Prim.Native.Nat.{_≤_, _<_, _-_, _+_}
+use lib.ListN.{length}
+use borrow.Author.Needs.{needs}
+use Rattle.cases.proofs.numbers.put_bytes.Statement.{statement}
+use Rattle.cases.proofs.numbers.put_bytes.Tie as tie
+use Rattle.cases.proofs.numbers.put_bytes.Reads as reads
+use Rattle.cases.proofs.numbers.put_bytes.Lts as lts
+use Rattle.cases.proofs.numbers.put.Reads as put-reads
+use Rattle.cases.proofs.numbers.wide.Reads as wide-reads
+
+abbrev Inv-loop : tie.InvT-loop
+Inv-loop got₀ at bytes n next₀ k₀ got next k = Unit {0}
+
+abbrev μ-loop : tie.MeasureT-loop
+μ-loop got₀ at bytes n next₀ k₀ got next k = n - k
+
+loop-holds : tie.Need-loop-holds Inv-loop μ-loop
+loop-holds c = search needs
+
+returns : tie.Need-returns Inv-loop μ-loop
+returns c = search needs
+
+element-copy-out-wide : tie.Need-element-copy-out-wide Inv-loop μ-loop
+element-copy-out-wide c = search needs
+
+wide-requires : tie.Need-wide-requires Inv-loop μ-loop
+wide-requires c κs = search needs
+
+put-requires : tie.Need-put-requires Inv-loop μ-loop
+put-requires c κs = search needs
+
+add-k : tie.Need-add-k Inv-loop μ-loop
+add-k c = search needs
+
+loop-less : tie.Need-loop-less Inv-loop μ-loop
+loop-less c = search needs
+
+loop-again : tie.Need-loop-again Inv-loop μ-loop
+loop-again c = search needs
+
+returns-2 : tie.Need-returns-2 Inv-loop μ-loop
+returns-2 c = search needs
+
+pub put-bytes-spec : {M : Type 1} → statement M
+put-bytes-spec =
+    tie.close
+    (tie.spec
+    Inv-loop
+    μ-loop
+    loop-holds
+    returns
+    element-copy-out-wide
+    wide-requires
+    put-requires
+    add-k
+    loop-less
+    loop-again
+    returns-2)
