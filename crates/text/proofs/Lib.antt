@@ -1,0 +1,9 @@
+pub mod Runs
+pub mod Span
+pub mod Onward
+pub mod Tokens
+pub mod Unroll
+pub mod Steps
+pub mod FieldLaw
+pub mod Grow
+pub mod Law
