@@ -8,3 +8,8 @@ pub mod Steps
 pub mod FieldLaw
 pub mod Grow
 pub mod Law
+pub mod Laid
+pub mod Toks
+pub mod Goes
+pub mod Good
+pub mod Follow

@@ -6,4 +6,5 @@ pub mod Number
 pub mod Grammar
 pub mod Building
 pub mod Reading
+pub mod Filled
 pub mod Recursive
