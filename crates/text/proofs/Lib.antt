@@ -13,3 +13,4 @@ pub mod Toks
 pub mod Goes
 pub mod Good
 pub mod Follow
+pub mod Legal
