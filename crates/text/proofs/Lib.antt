@@ -14,3 +14,4 @@ pub mod Goes
 pub mod Good
 pub mod Follow
 pub mod Legal
+pub mod Seen
