@@ -15,3 +15,6 @@ pub mod Good
 pub mod Follow
 pub mod Legal
 pub mod Seen
+pub mod Becomes
+pub mod Prefix
+pub mod Exactly

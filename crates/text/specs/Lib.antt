@@ -7,4 +7,5 @@ pub mod Grammar
 pub mod Building
 pub mod Reading
 pub mod Filled
+pub mod Theorems
 pub mod Recursive
