@@ -18,3 +18,4 @@ pub mod Seen
 pub mod Becomes
 pub mod Prefix
 pub mod Exactly
+pub mod Unique

@@ -28,7 +28,7 @@ three-ways s k x h = go (eqb (k .kind) 65) refl (eqb (k .kind) 48) refl h
     go false e false f h = inr (inr (sym h))
 
 -- the three are told apart
-abbrev tag : Tok → ℕ
+abbrev pub tag : Tok → ℕ
 tag (word x) = 0
 tag (number n) = 1
 tag (sign n) = 2
