@@ -19,3 +19,5 @@ pub mod Becomes
 pub mod Prefix
 pub mod Exactly
 pub mod Unique
+pub mod Words
+pub mod Names
