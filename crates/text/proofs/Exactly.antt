@@ -9,22 +9,25 @@ use native.Mathlib.Omega.{arith}
 use lib.Dec.{leb, eqb}
 use lib.ListN.{length}
 use borrow.Author.Tests.{le-leb, leb-true, eq-eqb}
-use Rattle.table.specs.View.{view, emptyTable}
+use Rattle.table.specs.View.{view, emptyTable, known, soundOf}
+use Rattle.table.proofs.Lists.{join}
 use Rattle.text.specs.Token.{tokens}
 use Rattle.text.specs.Building.{emptyBranch, out, refused}
 use Rattle.text.specs.Reading.{State, state, start, meaning, stored, closed, wellFormed, allowed, bound, guarded, ranged, fresh, within, asked, taken, run, reads}
 use Rattle.text.specs.Grammar.{Ty, Tok, sign, printText, tokOf, Writes, sorts, nothing-bound, branches, tableOf, Legal}
-use Rattle.text.specs.Filled.{laid}
+use Rattle.text.specs.Filled.{Row, laid, filled}
 use Rattle.text.specs.declared.token.Token.{Token}
 use Rattle.text.specs.declared.Reading.{Reading}
 use Rattle.text.proofs.Laid.{empty-laid}
-use Rattle.text.proofs.Seen.{rows-few, view-laid}
+use Rattle.text.proofs.Seen.{rows-few, view-laid, known-laid}
 use Rattle.text.proofs.Toks.{sign-kind}
 use Rattle.text.proofs.Goes.{Goes, first-is, rest-is, never-empty}
-use Rattle.text.proofs.Good.{rows, Good, rows-seen}
+use Rattle.text.proofs.Good.{rows, Good, rows-seen, rows-back}
 use Rattle.text.proofs.Follow.{type-law}
 use Rattle.text.proofs.Legal.{good-legal, legal-good}
 use Rattle.text.proofs.Prefix.{spells}
+use Rattle.text.proofs.Names.{labels-legal}
+use Rattle.text.proofs.SoundTable.{legal-sound}
 use Rattle.table.specs.Table as T
 
 module _ (s : List ℕ) where
@@ -77,3 +80,19 @@ read-exactly s T = (
   (λ h. let r = read-only s (h .0) in (r .0, r .1, r .2, sym (h .1) ∙ read-table s (r .0) (r .1) (r .2))),
   (λ h. (ap (λ (r : Reading). r .question) (read-laid s (h .0) (h .1) (h .2)), read-table s (h .0) (h .1) (h .2) ∙ sym (h .3))),
 )
+
+-- ---- and what is read
+
+-- the table's columns, filled up with 0
+pub read-filled : (s : List ℕ) (t : Ty) → Writes s t → Legal t → reads s ≡ out 0 0 (filled (tableOf t))
+unfolding filled tableOf
+read-filled s t w l = read-laid s t w l ∙ ap (λ (rs : List Row). out 0 0 (laid (sorts t) rs)) (sym (rows-back t nothing-bound 0 (labels-legal s t w)))
+
+-- is sound
+pub read-sound : (s : List ℕ) → reads s .question ≡ 0 → soundOf (reads s .table) ≡ true
+unfolding soundOf
+read-sound s h =
+    let r = read-only s h in
+    let t = r .0 in
+    join (ap (λ (x : Reading). known (x .table)) (read-laid s t (r .1) (r .2)) ∙ known-laid (sorts t) (rows t nothing-bound 0))
+    (ap T.sound (read-table s t (r .1) (r .2)) ∙ legal-sound t (r .2) (labels-legal s t (r .1)))

@@ -6,10 +6,12 @@ use mathlib.Core.List.{List, [], _∷_, _++_, map}
 use Prim.Native.Nat.{ℕ, suc, _+_, _<_}
 use lib.ListN.{length}
 use Rattle.table.specs.View.{labelOf}
-use Rattle.text.specs.Grammar.{Field, Ty, stop, var, loop, choice, Br, last, also, sorts, sortsBr, Scope, bind, first-state, fieldOf, fields-legal, branches, branchesBr}
+use Rattle.text.specs.Grammar.{Field, Ty, stop, var, loop, choice, Br, last, also, sorts, sortsBr, Scope, bind, first-state, fieldOf, fields-legal, branchOf, branches, branchesBr}
 use Rattle.text.specs.Reading.{Open, aRec, aChoice, meaning, isFound, inRec}
-use Rattle.text.specs.Filled.{Row}
+use Rattle.text.specs.Filled.{Row, rowOf}
 use Rattle.text.proofs.Laid.{has, map-append}
+use Rattle.text.proofs.Words.{Label}
+use Rattle.text.proofs.Names.{Labelled, LabelledBr}
 use Rattle.table.specs.Table as T
 
 abbrev pub row : ℕ → ℕ → List Field → ℕ → Row
@@ -59,3 +61,20 @@ mutual
   rowsBr-seen (also l fs t bs) e o n =
       ap (λ z. seen (row o l fs (first-state t e n)) ∷ z)
       (map-append seen (rows t e n) (rowsBr bs e o (n + length (sorts t))) ∙ ap₂ _++_ (rows-seen t e n) (rowsBr-seen bs e o (n + length (sorts t))))
+
+row-back : (o l : ℕ) (fs : List Field) (n : ℕ) → Label l → rowOf (branchOf o l fs n) ≡ row o l fs n
+row-back o l fs n d = ap (λ (x : ℕ). row o x fs n) (d .back)
+
+-- and the other way round, where a label's eight bytes are its number
+mutual
+  pub rows-back : (t : Ty) (e : Scope) (n : ℕ) → Labelled t → map rowOf (branches t e n) ≡ rows t e n
+  rows-back stop e n d = refl
+  rows-back (var x) e n d = refl
+  rows-back (loop x t) e n d = rows-back t (bind x n e) n d
+  rows-back (choice w bs) e n d = rowsBr-back bs e n (suc n) d
+
+  rowsBr-back : (bs : Br) (e : Scope) (o n : ℕ) → LabelledBr bs → map rowOf (branchesBr bs e o n) ≡ rowsBr bs e o n
+  rowsBr-back (last l fs t) e o n d = ap₂ _∷_ (row-back o l fs (first-state t e n) (d .0)) (rows-back t e n (d .1))
+  rowsBr-back (also l fs t bs) e o n d =
+      ap₂ _∷_ (row-back o l fs (first-state t e n) (d .0))
+      (map-append rowOf (branches t e n) (branchesBr bs e o (n + length (sorts t))) ∙ ap₂ _++_ (rows-back t e n (d .1 .0)) (rowsBr-back bs e o (n + length (sorts t)) (d .1 .1)))

@@ -21,3 +21,4 @@ pub mod Exactly
 pub mod Unique
 pub mod Words
 pub mod Names
+pub mod SoundTable

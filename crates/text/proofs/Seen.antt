@@ -10,8 +10,8 @@ use lib.Dec.{leb}
 use lib.ListN.{length, getD, length-map, List·getD-map}
 use borrow.Author.Tests.{leb-true}
 use Rattle.table.specs.Lists.{every, upto}
-use Rattle.table.specs.View.{labelOf, sortOf, fieldAt, branchAt, view}
-use Rattle.table.proofs.Lists.{both}
+use Rattle.table.specs.View.{labelOf, sortOf, fieldAt, branchAt, view, known}
+use Rattle.table.proofs.Lists.{both, upto-every}
 use Rattle.text.specs.Grammar.{Field, Ty, stop, var, loop, choice, Br, last, also, sorts, Scope, bind, first-state, fieldOf, range-legal, fields-legal, branches-legal, branches-legalBr}
 use Rattle.text.specs.Filled.{padded, Row, codeOf, fours, laid}
 use Rattle.text.proofs.Laid.{padded-at}
@@ -127,3 +127,15 @@ module _ (ss : List T.Sort) (rs : List Row) (few : Few rs) where
       branching =
           ap (λ n. upto n (branchAt (laid ss rs))) (sym (length-map rs seen))
           ∙ upto-list (map seen rs) (seen no-row) (branchAt (laid ss rs)) (λ k h. branch-at k ∙ sym (List·getD-map seen rs k no-row))
+
+code-known : (c : T.Sort) → leb (codeOf c) 2 ≡ true
+code-known T.ends = refl
+code-known T.sends = refl
+code-known T.receives = refl
+
+-- the codes of sorts are known
+pub known-laid : (ss : List T.Sort) (rs : List Row) → known (laid ss rs) ≡ true
+unfolding known laid
+known-laid ss rs =
+    upto-every (λ c. leb c 2) (length ss) (λ i. getD (padded 32 (map codeOf ss)) i 0) (λ k h.
+    ap (λ (c : ℕ). leb c 2) (padded-at 32 (map codeOf ss) k ∙ List·getD-map codeOf ss k T.ends) ∙ code-known (getD ss k T.ends))
