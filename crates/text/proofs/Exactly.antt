@@ -1,20 +1,20 @@
 -- A text is read exactly when the grammar has it, limits included, into the table that its type means. (Document 01, "Protocol text".)
 -- Assumes nothing.
-use mathlib.Core.Path.{_≡_, refl, sym, ap, subst, _∙_}
+use mathlib.Core.Path.{_≡_, refl, sym, ap, _∙_}
 use mathlib.Core.Bool.{cond, Bool, true, false}
 use mathlib.Core.Logic.{_↔_}
 use mathlib.Core.List.{List, [], _∷_, map}
-use Prim.Native.Nat.{ℕ, _≤_}
+use Prim.Native.Nat.{ℕ}
 use native.Mathlib.Omega.{arith}
-use lib.Dec.{leb, eqb}
+use lib.Dec.{leb}
 use lib.ListN.{length}
-use borrow.Author.Tests.{le-leb, leb-true, eq-eqb}
+use borrow.Author.Tests.{le-leb, leb-true}
 use Rattle.table.specs.View.{view, emptyTable, known, soundOf}
 use Rattle.table.proofs.Lists.{join}
 use Rattle.text.specs.Token.{tokens}
 use Rattle.text.specs.Building.{emptyBranch, out, refused}
-use Rattle.text.specs.Reading.{State, state, start, meaning, stored, closed, wellFormed, allowed, bound, guarded, ranged, fresh, within, asked, taken, run, reads}
-use Rattle.text.specs.Grammar.{Ty, Tok, sign, printText, tokOf, Writes, sorts, nothing-bound, branches, tableOf, Legal}
+use Rattle.text.specs.Reading.{state, start, meaning, stored, closed, wellFormed, allowed, bound, guarded, ranged, fresh, within, asked, taken, run, reads}
+use Rattle.text.specs.Grammar.{Ty, sign, printText, tokOf, Writes, sorts, nothing-bound, branches, tableOf, Legal}
 use Rattle.text.specs.Filled.{Row, laid, filled}
 use Rattle.text.specs.declared.token.Token.{Token}
 use Rattle.text.specs.declared.Reading.{Reading}
@@ -69,26 +69,35 @@ laid-table t l =
     view-laid (sorts t) (rows t nothing-bound 0) (rows-few t nothing-bound 0 (l .fields))
     ∙ ap (λ (bs : List T.Branch). record { sorts = sorts t; branches = bs }) (rows-seen t nothing-bound 0)
 
-pub read-table : (s : List ℕ) (t : Ty) → Writes s t → Legal t → view (reads s .table) ≡ tableOf t
-read-table s t w l = ap (λ (r : Reading). view (r .table)) (read-laid s t w l) ∙ laid-table t l
-
--- ---- the theorem
-
-pub read-exactly : (s : List ℕ) (T : T.Table)
-    → ((reads s .question ≡ 0) × (view (reads s .table) ≡ T)) ↔ ((t : Ty) × Writes s t × Legal t × (T ≡ tableOf t))
-read-exactly s T = (
-  (λ h. let r = read-only s (h .0) in (r .0, r .1, r .2, sym (h .1) ∙ read-table s (r .0) (r .1) (r .2))),
-  (λ h. (ap (λ (r : Reading). r .question) (read-laid s (h .0) (h .1) (h .2)), read-table s (h .0) (h .1) (h .2) ∙ sym (h .3))),
-)
-
--- ---- and what is read
-
 -- the table's columns, filled up with 0
 pub read-filled : (s : List ℕ) (t : Ty) → Writes s t → Legal t → reads s ≡ out 0 0 (filled (tableOf t))
 unfolding filled tableOf
 read-filled s t w l = read-laid s t w l ∙ ap (λ (rs : List Row). out 0 0 (laid (sorts t) rs)) (sym (rows-back t nothing-bound 0 (labels-legal s t w)))
 
--- is sound
+read-table : (s : List ℕ) (t : Ty) → Writes s t → Legal t → view (reads s .table) ≡ tableOf t
+read-table s t w l = ap (λ (r : Reading). view (r .table)) (read-laid s t w l) ∙ laid-table t l
+
+-- ---- the theorems
+
+-- Reading gives r without a no, exactly when the text is that of a legal type and r is the type's table.
+pub read-exactly : (s : List ℕ) (r : Reading)
+    → ((reads s ≡ r) × (r .question ≡ 0)) ↔ ((t : Ty) × Writes s t × Legal t × (r ≡ out 0 0 (filled (tableOf t))))
+read-exactly s r = (
+  (λ h.
+      let a = read-only s (ap (λ (x : Reading). x .question) (h .0) ∙ h .1) in
+      (a .0, a .1, a .2, sym (h .0) ∙ read-filled s (a .0) (a .1) (a .2))),
+  (λ h. (read-filled s (h .0) (h .1) (h .2) ∙ sym (h .3), ap (λ (x : Reading). x .question) (h .3))),
+)
+
+-- The same of what is seen of the columns.
+pub read-seen : (s : List ℕ) (T : T.Table)
+    → ((reads s .question ≡ 0) × (view (reads s .table) ≡ T)) ↔ ((t : Ty) × Writes s t × Legal t × (T ≡ tableOf t))
+read-seen s T = (
+  (λ h. let a = read-only s (h .0) in (a .0, a .1, a .2, sym (h .1) ∙ read-table s (a .0) (a .1) (a .2))),
+  (λ h. (ap (λ (r : Reading). r .question) (read-laid s (h .0) (h .1) (h .2)), read-table s (h .0) (h .1) (h .2) ∙ sym (h .3))),
+)
+
+-- What is read is sound (question 9).
 pub read-sound : (s : List ℕ) → reads s .question ≡ 0 → soundOf (reads s .table) ≡ true
 unfolding soundOf
 read-sound s h =

@@ -1,22 +1,20 @@
 -- Reading goes over the tokens of a type exactly where the type is good, and lays its states and branches after those that are there.
 -- Assumes nothing.
 use mathlib.Core.Path.{_≡_, refl, sym, ap, ap₂, subst, _∙_}
-use mathlib.Core.Bool.{cond, Bool, true, false, not, _&&_, true≢false, false≢true}
+use mathlib.Core.Bool.{cond, Bool, true, false, not, _&&_}
 use mathlib.Core.List.{List, [], _∷_, _++_, map, append-nil, append-assoc}
-use mathlib.Core.Option.{Option, none, some}
-use Prim.Native.Nat.{ℕ, zero, suc, _+_, _≤_, _<_}
+use Prim.Native.Nat.{ℕ, suc, _+_, _≤_, _<_}
 use native.Mathlib.Omega.{arith}
-use lib.Dec.{eqb, leb, ltb}
+use lib.Dec.{leb, ltb}
 use lib.ListN.{length, length-append}
-use borrow.Author.Tests.{eq-eqb, ne-eqb, lt-ltb, le-leb, lt-leb, le-ltb, ltb-true, leb-true, ltb-false, not-true}
+use borrow.Author.Tests.{eq-eqb, ne-eqb, lt-ltb, le-leb, lt-leb, ltb-true, leb-true, ltb-false, not-true}
 use Rattle.table.specs.Lists.{every}
 use Rattle.table.specs.declared.Table.{Table}
 use Rattle.table.proofs.Lists.{both, join}
-use Rattle.text.specs.Token.{wordIn}
-use Rattle.text.specs.Number.{Signed, signedIn, offset, inKind}
-use Rattle.text.specs.Building.{emptyBranch, labelled, fieldAdded, addState, addBranch, hasLabel}
+use Rattle.text.specs.Number.{Signed, offset, inKind}
+use Rattle.text.specs.Building.{emptyBranch, labelled, fieldAdded, addState, hasLabel}
 use Rattle.text.specs.Reading.{Item, just, name, label, type, more, fields, field, low, high, moreFields, Open, aRec, aChoice, State, state, meaning, inRec, closed, wellFormed, allowed, isFound, bound, guarded, ranged, fresh, within, asked, signOf, sortCode, kindOf, aBranch, aField, target, stored, began, taken}
-use Rattle.text.specs.Grammar.{Way, sends, receives, Kind, int, text, flag, Field, Ty, stop, var, loop, choice, Br, last, also, Tok, word, number, sign, mark, arrow, letter, kindCode, sortOf, fieldOf, printField, printMore, printFields, printHead, print, printBr, tokOf, sorts, sortsBr, bind, or-else, first-state, range-legal, fields-legal}
+use Rattle.text.specs.Grammar.{Way, sends, receives, Kind, int, text, flag, Field, Ty, stop, var, loop, choice, Br, last, also, Tok, word, number, sign, mark, arrow, letter, kindCode, sortOf, fieldOf, printMore, printFields, printHead, print, printBr, tokOf, sorts, sortsBr, bind, or-else, first-state, range-legal, fields-legal}
 use Rattle.text.specs.Filled.{Row, codeOf, laid}
 use Rattle.text.specs.declared.token.Token.{Token}
 use Rattle.text.specs.declared.build.Branch.{Branch}
@@ -188,7 +186,7 @@ module _ (s : List ℕ) where
         (state E O (part l o (gs ++ map fieldOf fs)) T) us
     unfolding every
     more-law [] gs room =
-        given s (λ c. (refl, omega arith)) (λ c. tt)
+        given s (λ (c : Unit {0}). (refl, omega arith)) (λ c. tt)
         (into s (ap (λ (x : List S.Field). state E O (part l o x) T) (sym (append-nil gs))) (past s (closing E O T (part l o gs)) (done s)))
     more-law (f ∷ fs) gs room =
         let g = fieldOf f in

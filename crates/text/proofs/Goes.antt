@@ -2,10 +2,9 @@
 -- put together one after the other.
 -- Assumes nothing.
 use mathlib.Core.Path.{_≡_, refl, sym, ap, subst, _∙_}
-use mathlib.Core.Bool.{cond, Bool, true, false, true≢false}
+use mathlib.Core.Bool.{cond, Bool, true, false}
 use mathlib.Core.List.{List, [], _∷_, map}
 use Prim.Native.Nat.{ℕ}
-use native.Mathlib.Omega.{arith}
 use lib.Dec.{eqb}
 use borrow.Author.Tests.{eq-eqb, eqb-true, eqb-false}
 use Rattle.text.specs.Building.{refused}
@@ -46,13 +45,14 @@ module _ (s : List ℕ) where
   unfolding run
   run-yes st k ks e = ap (λ b. cond b (run s (taken s st k) ks) (refused (asked s st k) (k .start))) (eq-eqb _ _ e)
 
-  run-zero : (st : State) (k : Token) (ks : List Token) → run s st (k ∷ ks) .question ≡ 0 → asked s st k ≡ 0
+  pub passed : (st : State) (k : Token) (ks : List Token) → run s st (k ∷ ks) .question ≡ 0 → (asked s st k ≡ 0) × (run s (taken s st k) ks .question ≡ 0)
   unfolding run refused
-  run-zero st k ks h = go (eqb (asked s st k) 0) refl h
+  passed st k ks h = go (eqb (asked s st k) 0) refl h
     where
-      go : (b : Bool) → eqb (asked s st k) 0 ≡ b → cond b (run s (taken s st k) ks) (refused (asked s st k) (k .start)) .question ≡ 0 → asked s st k ≡ 0
-      go true e h = eqb-true _ _ e
-      go false e h = h
+      go : (b : Bool) → eqb (asked s st k) 0 ≡ b → cond b (run s (taken s st k) ks) (refused (asked s st k) (k .start)) .question ≡ 0
+          → (asked s st k ≡ 0) × (run s (taken s st k) ks .question ≡ 0)
+      go true e h = (eqb-true _ _ e, h)
+      go false e h = absurd (eqb-false _ _ e h)
 
   -- one after the other
   pub after : {P Q : Type 0} {st st' st'' : State} {ts us vs : List Tok}
@@ -86,7 +86,7 @@ module _ (s : List ℕ) where
 
       only : (ks : List Token) → map (tokOf s) ks ≡ a ∷ us → run s st ks .question ≡ 0 → P
       only [] e z = absurd (never-empty e)
-      only (k ∷ ks) e z = f k (first-is e) .1 (run-zero st k ks z)
+      only (k ∷ ks) e z = f k (first-is e) .1 (passed st k ks z .0)
 
   -- one token that always passes, and what comes after it
   pub past : {Q : Type 0} {st st' st'' : State} {a : Tok} {us vs : List Tok}

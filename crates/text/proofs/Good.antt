@@ -1,12 +1,12 @@
 -- What reading asks of a type, in the order in which it is read; and the rows that it adds to a table.
 -- Assumes nothing.
-use mathlib.Core.Path.{_≡_, refl, sym, ap, ap₂, _∙_}
-use mathlib.Core.Bool.{Bool, true, false}
+use mathlib.Core.Path.{_≡_, refl, ap, ap₂, _∙_}
+use mathlib.Core.Bool.{true, false}
 use mathlib.Core.List.{List, [], _∷_, _++_, map}
 use Prim.Native.Nat.{ℕ, suc, _+_, _<_}
 use lib.ListN.{length}
 use Rattle.table.specs.View.{labelOf}
-use Rattle.text.specs.Grammar.{Field, Ty, stop, var, loop, choice, Br, last, also, sorts, sortsBr, Scope, bind, first-state, fieldOf, fields-legal, branchOf, branches, branchesBr}
+use Rattle.text.specs.Grammar.{Field, Ty, stop, var, loop, choice, Br, last, also, sorts, Scope, bind, first-state, fieldOf, fields-legal, branchOf, branches, branchesBr}
 use Rattle.text.specs.Reading.{Open, aRec, aChoice, meaning, isFound, inRec}
 use Rattle.text.specs.Filled.{Row, rowOf}
 use Rattle.text.proofs.Laid.{has, map-append}

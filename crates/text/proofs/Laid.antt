@@ -1,17 +1,16 @@
 -- A table laid out in columns: one state more, one branch more, the labels of a state, and what is seen of it. Each column is a
 -- list and then zeros, and an entry more goes where the list ends.
 -- Assumes nothing.
-use mathlib.Core.Path.{_≡_, refl, sym, ap, ap₂, _∙_}
+use mathlib.Core.Path.{_≡_, refl, sym, ap, _∙_}
 use mathlib.Core.Bool.{Bool, true, false, _&&_, _||_}
 use mathlib.Core.List.{List, [], _∷_, _++_, map, append-assoc}
-use Prim.Native.Nat.{ℕ, zero, suc, _+_, _*_, _≤_, _<_}
+use Prim.Native.Nat.{ℕ, zero, suc, _+_, _*_, _<_}
 use native.Mathlib.Nat.{le-of-suc-le-suc}
 use native.Mathlib.Omega.{arith}
 use lib.Dec.{eqb}
 use lib.ListN.{length, set, getD, length-append, length-map}
-use Rattle.table.specs.Lists.{some-one, upto}
-use Rattle.table.specs.View.{columns, labelOf, sortOf, fieldAt, branchAt, view, emptyTable}
-use Rattle.text.specs.Building.{labelled, fieldAdded, setFour, addState, addBranch, anyLabel, hasLabel}
+use Rattle.table.specs.View.{columns, emptyTable}
+use Rattle.text.specs.Building.{fieldAdded, setFour, addState, addBranch, anyLabel, hasLabel}
 use Rattle.text.specs.Filled.{padded, Row, codeOf, fours, laid}
 use Rattle.text.specs.declared.build.Branch.{Branch}
 use Rattle.table.specs.Table as T

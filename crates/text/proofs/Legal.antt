@@ -4,9 +4,9 @@
 use mathlib.Core.Path.{_≡_, refl, sym, ap, ap₂, subst, _∙_}
 use mathlib.Core.Bool.{cond, Bool, true, false, not, _&&_, _||_, true≢false, false≢true}
 use mathlib.Core.Logic.{_⊎_, inl, inr}
-use mathlib.Core.List.{List, [], _∷_, _++_, map}
-use mathlib.Core.Option.{Option, none, some}
-use Prim.Native.Nat.{ℕ, zero, suc, _+_, _≤_, _<_, max}
+use mathlib.Core.List.{List, [], _∷_, _++_}
+use mathlib.Core.Option.{some}
+use Prim.Native.Nat.{ℕ, suc, _+_, _≤_, _<_}
 use native.Mathlib.Omega.{arith}
 use lib.Dec.{eqb}
 use lib.ListN.{length, length-append, length-map}
@@ -153,8 +153,8 @@ record FitsBr (bs : Br) (O : List Open) (o n : ℕ) (rs : List Row) : Type 0 whe
   nested : length O + depthBr bs ≤ 16
 
 -- three tests in a row
-three : (a b c : Bool) → (a && b && c) ≡ true → (a ≡ true) × (b ≡ true) × (c ≡ true)
-three a b c h =
+all-three : (a b c : Bool) → (a && b && c) ≡ true → (a ≡ true) × (b ≡ true) × (c ≡ true)
+all-three a b c h =
     let d = both (a && b) c h in
     let e = both a b (d .0) in
     (e .0, e .1, d .1)
@@ -249,7 +249,7 @@ mutual
         nested = omega (arith, i .nested, v .nested);
       }
 
-later : (c : Bool) {d : Bool} → d ≡ true → cond c true d ≡ true
+pub later : (c : Bool) {d : Bool} → d ≡ true → cond c true d ≡ true
 later true e = refl
 later false e = e
 
@@ -326,8 +326,8 @@ mutual
       let m = q ++ R in
       let u = both (names-bound t (names O)) (names-boundBr bs (names O)) (f .bound) in
       let v = both (recs-guarded t) (recs-guardedBr bs) (f .guarded) in
-      let c = three (fields-legal fs) (branches-legal t) (branches-legalBr bs) (f .fields) in
-      let w = three (not (has-label bs k)) (labels-differ t) (labels-differBr bs) (f .labels) in
+      let c = all-three (fields-legal fs) (branches-legal t) (branches-legalBr bs) (f .fields) in
+      let w = all-three (not (has-label bs k)) (labels-differ t) (labels-differBr bs) (f .labels) in
       let y = rooms rs R (rowsBr bs (meaning O) o (n + length (sorts t))) r (f .room) in
       let z = length-append (sorts t) (sortsBr bs) in
       let b : length rs < 128 = y .0 in

@@ -22,3 +22,4 @@ pub mod Unique
 pub mod Words
 pub mod Names
 pub mod SoundTable
+pub mod Examples

@@ -11,7 +11,7 @@ use lib.Dec.{eqb, leb}
 use lib.ListN.{length}
 use borrow.Author.Tests.{eqb-true, eqb-false}
 use Rattle.text.specs.Token.{tokenAt, tokensFrom, tokens}
-use Rattle.text.specs.Building.{out, refused}
+use Rattle.text.specs.Building.{refused}
 use Rattle.text.specs.Reading.{Item, just, name, label, type, more, fields, field, low, high, moreFields, State, state, allows, allowed, asked, taken, run, start, reads}
 use Rattle.text.specs.Grammar.{Tok, sign, Ty, print, printText, tokOf}
 use Rattle.text.specs.Theorems.{Forbidden}
@@ -19,6 +19,7 @@ use Rattle.text.specs.declared.token.Token.{Token}
 use Rattle.text.specs.declared.Reading.{Reading}
 use Rattle.text.proofs.Onward.{onward}
 use Rattle.text.proofs.Toks.{kind-sign}
+use Rattle.text.proofs.Goes.{passed}
 use Rattle.text.proofs.Becomes.{expectedIn, Becomes, becomes-some, Clean, allowed-on, taken-on, taken-back, taken-clean, asked-none, asked-three}
 
 -- ---- the tokens of a text end where the text does, and only there
@@ -73,20 +74,11 @@ module _ (s : List ℕ) where
   last-token (state [] O b T) k z c a = ap (λ (x : Tok). x ∷ []) (kind-sign s k 0 (λ x. omega arith) (λ x. omega arith) z)
   last-token (state (i ∷ E) O b T) k z c a = absurd (at-end i E c (subst (λ (n : ℕ). allows i n ≡ true) z a))
 
-  passed : (st : State) (k : Token) (ks : List Token) → run s st (k ∷ ks) .question ≡ 0 → (asked s st k ≡ 0) × (run s (taken s st k) ks .question ≡ 0)
-  unfolding run refused
-  passed st k ks h = go (eqb (asked s st k) 0) refl h
-    where
-      go : (b : Bool) → eqb (asked s st k) 0 ≡ b → cond b (run s (taken s st k) ks) (refused (asked s st k) (k .start)) .question ≡ 0
-          → (asked s st k ≡ 0) × (run s (taken s st k) ks .question ≡ 0)
-      go true e h = (eqb-true _ _ e, h)
-      go false e h = absurd (eqb-false _ _ e h)
-
   spelt : (ks : List Token) (st : State) → Ended ks → Clean (expectedIn st) → run s st ks .question ≡ 0 → Becomes (expectedIn st) (map (tokOf s) ks)
   spelt [] st d c h = absurd d
-  spelt (k ∷ []) st d c h = last-token st k d c (asked-none s k st (passed st k [] h .0))
+  spelt (k ∷ []) st d c h = last-token st k d c (asked-none s k st (passed s st k [] h .0))
   spelt (k ∷ j ∷ ks) st d c h =
-      let p = passed st k (j ∷ ks) h in
+      let p = passed s st k (j ∷ ks) h in
       taken-back s k st (map (tokOf s) (j ∷ ks)) (d .0) c (asked-none s k st (p .0)) (spelt (j ∷ ks) (taken s st k) (d .1) (taken-clean s k st c) (p .1))
 
   -- a text that is read is that of a type

@@ -1,10 +1,9 @@
 -- What is seen of a table laid out in columns is the table itself.
 -- Assumes nothing.
 use mathlib.Core.Path.{_≡_, refl, sym, ap, ap₂, _∙_}
-use mathlib.Core.Bool.{Bool, true, _&&_}
+use mathlib.Core.Bool.{true, _&&_}
 use mathlib.Core.List.{List, [], _∷_, _++_, map}
 use Prim.Native.Nat.{ℕ, zero, suc, _+_, _*_, _≤_, _<_}
-use native.Mathlib.Nat.{le-of-suc-le-suc}
 use native.Mathlib.Omega.{arith}
 use lib.Dec.{leb}
 use lib.ListN.{length, getD, length-map, List·getD-map}
@@ -12,10 +11,10 @@ use borrow.Author.Tests.{leb-true}
 use Rattle.table.specs.Lists.{every, upto}
 use Rattle.table.specs.View.{labelOf, sortOf, fieldAt, branchAt, view, known}
 use Rattle.table.proofs.Lists.{both, upto-every}
-use Rattle.text.specs.Grammar.{Field, Ty, stop, var, loop, choice, Br, last, also, sorts, Scope, bind, first-state, fieldOf, range-legal, fields-legal, branches-legal, branches-legalBr}
+use Rattle.text.specs.Grammar.{Field, Ty, stop, var, loop, choice, Br, last, also, sorts, Scope, bind, fieldOf, range-legal, fields-legal, branches-legal, branches-legalBr}
 use Rattle.text.specs.Filled.{padded, Row, codeOf, fours, laid}
 use Rattle.text.proofs.Laid.{padded-at}
-use Rattle.text.proofs.Good.{row, rows, rowsBr, seen}
+use Rattle.text.proofs.Good.{rows, rowsBr, seen}
 use Rattle.table.specs.Table as T
 
 -- ---- at most four fields to a row

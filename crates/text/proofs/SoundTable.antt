@@ -5,21 +5,22 @@ use mathlib.Core.Path.{_≡_, refl, sym, ap, ap₂, subst, _∙_}
 use mathlib.Core.Logic.{_⊎_, inl, inr, ⊎-elim}
 use mathlib.Core.Bool.{cond, Bool, true, false, not, _&&_, _||_, true≢false, false≢true}
 use mathlib.Core.List.{List, [], _∷_, _++_, map}
-use mathlib.Core.Option.{Option, none, some}
-use Prim.Native.Nat.{ℕ, zero, suc, _+_, _≤_, _<_}
+use mathlib.Core.Option.{Option, some}
+use Prim.Native.Nat.{ℕ, suc, _+_, _≤_, _<_}
 use native.Mathlib.Omega.{arith}
-use lib.Dec.{leb, ltb, eqb}
+use lib.Dec.{leb, eqb}
 use lib.ListN.{length, getD, length-append, length-map, List·getD-append}
 use lib.Seq.{getD-append-add}
-use borrow.Author.Tests.{not-true, lt-ltb, le-leb, leb-true, eq-eqb, ne-eqb, eqb-true, eqb-false}
+use borrow.Author.Tests.{not-true, lt-ltb, le-leb, eq-eqb, ne-eqb, eqb-true, eqb-false}
 use Rattle.table.specs.Lists.{every, some-one, same, matched}
-use Rattle.table.specs.Table.{sort, within-kind, legal-label, legal-field, is-choice, legal-branch, clash, labels-differ, choices-own, sound}
+use Rattle.table.specs.Table.{sort, within-kind, legal-field, is-choice, legal-branch, clash, labels-differ, choices-own, sound}
 use Rattle.table.specs.View.{labelOf}
 use Rattle.table.proofs.Lists.{both, join, never, refuted, left-fails, right-fails}
 use Rattle.table.proofs.Facts.{label-eq}
 use Rattle.text.specs.Token.{oneOf}
 use Rattle.text.specs.Number.{Signed, offset, inKind}
 use Rattle.text.specs.Grammar.{Way, sends, receives, Field, Ty, stop, var, loop, choice, Br, last, also, kindCode, sortOf, fieldOf, sorts, sortsBr, Scope, nothing-bound, bind, or-else, first-state, branchOf, branches, branchesBr, tableOf, names-bound, names-boundBr, is-name, recs-guarded, recs-guardedBr, range-legal, fields-legal, branches-legal, branches-legalBr, has-label, labels-differ as labels-new, labels-differBr as labels-newBr, Legal}
+use Rattle.text.proofs.Legal.{later}
 use Rattle.text.proofs.Words.{Label}
 use Rattle.text.proofs.Names.{Labelled, LabelledBr}
 use Rattle.table.specs.Table as T
@@ -84,10 +85,6 @@ Within n k b = (n ≤ b .owner) × (b .owner < n + k)
 -- a branch of the choice, with a label of it; or one of the states after
 abbrev Of : Br → ℕ → ℕ → T.Branch → Type 0
 Of bs o n b = ((b .owner ≡ o) × ((l : ℕ) × (has-label bs l ≡ true) × Label l × (b .label ≡ labelOf l))) ⊎ Within n (length (sortsBr bs)) b
-
-later : (c : Bool) {d : Bool} → d ≡ true → cond c true d ≡ true
-later true e = refl
-later false e = e
 
 of-also : (l : ℕ) (fs : List Field) (t : Ty) (bs : Br) (o n : ℕ) (b : T.Branch) → Of bs o (n + length (sorts t)) b → Of (also l fs t bs) o n b
 of-also l fs t bs o n b (inl w) = inl (w .0, (w .1 .0, later (eqb l (w .1 .0)) (w .1 .1), w .1 .2, w .1 .3))
