@@ -10,7 +10,7 @@ use Rattle.text.specs.Grammar.{Field, Ty, stop, var, loop, choice, Br, l
 use Rattle.text.specs.Reading.{Open, aRec, aChoice, meaning, isFound, inRec}
 use Rattle.text.specs.Filled.{Row, rowOf}
 use Rattle.text.proofs.Laid.{has, map-append}
-use Rattle.text.proofs.Words.{Label}
+use Rattle.text.proofs.Packed.{Label}
 use Rattle.text.proofs.Names.{Labelled, LabelledBr}
 use Rattle.table.specs.Table as T
 

@@ -19,7 +19,7 @@ pub mod Becomes
 pub mod Prefix
 pub mod Exactly
 pub mod Unique
-pub mod Words
+pub mod Packed
 pub mod Names
 pub mod SoundTable
 pub mod Examples

@@ -21,7 +21,7 @@ use Rattle.text.specs.Token.{oneOf}
 use Rattle.text.specs.Number.{Signed, offset, inKind}
 use Rattle.text.specs.Grammar.{Way, sends, receives, Field, Ty, stop, var, loop, choice, Br, last, also, kindCode, sortOf, fieldOf, sorts, sortsBr, Scope, nothing-bound, bind, or-else, first-state, branchOf, branches, branchesBr, tableOf, names-bound, names-boundBr, is-name, recs-guarded, recs-guardedBr, range-legal, fields-legal, branches-legal, branches-legalBr, has-label, labels-differ as labels-new, labels-differBr as labels-newBr, Legal}
 use Rattle.text.proofs.Legal.{later}
-use Rattle.text.proofs.Words.{Label}
+use Rattle.text.proofs.Packed.{Label}
 use Rattle.text.proofs.Names.{Labelled, LabelledBr}
 use Rattle.table.specs.Table as T
 
