@@ -8,3 +8,6 @@ pub mod Steps
 pub mod FieldLaw
 pub mod Grow
 pub mod Law
+pub mod Values
+pub mod Scans
+pub mod Words
