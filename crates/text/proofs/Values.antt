@@ -1,8 +1,6 @@
 -- The value of digits, a digit at a time, where it is cut at 2^33; and fields, one at a time. Assumes nothing.
 use mathlib.Core.Path.{_≡_, refl, sym, ap, _∙_}
 use mathlib.Core.Bool.{cond, Bool, true, false, _&&_}
-use Rattle.table.specs.Table.{legal-field, within-kind}
-use Rattle.table.proofs.Lists.{never, right-fails}
 use mathlib.Core.List.{List, [], _∷_}
 use Prim.Native.Nat.{ℕ, zero, suc, _+_, _-_, _*_, _≤_, _<_, min}
 use native.Mathlib.Nat.{le-refl, le-trans}
@@ -12,6 +10,8 @@ use lib.Dec.{leb, ltb}
 use lib.ListN.{length, drop, getD, drop-of-length-le}
 use lib.Seq.{drop-cons}
 use borrow.Author.Tests.{eq-eqb, ne-eqb, ltb-false, le-leb, lt-leb, le-ltb, leb-true, leb-false}
+use Rattle.table.specs.Table.{legal-field, within-kind}
+use Rattle.table.proofs.Lists.{never, right-fails}
 use Rattle.text.specs.Number.{Signed, signedOf, valueOf, offset, inKind}
 use Rattle.text.specs.Recursive.{number, numberOf, noFields, fieldAt, fieldThen, fieldsFrom}
 use Rattle.text.specs.declared.number.Number.{Number}

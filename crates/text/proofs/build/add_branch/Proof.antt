@@ -1,11 +1,9 @@
 -- `text::build/add_branch` meets its contract. Assumes nothing.
-use mathlib.Core.Path.{_≡_, refl, sym, ap, _∙_}
-use Rattle.text.specs.Building.{addBranch}
+use mathlib.Core.Path.{refl}
 use borrow.Author.Needs.{needs}
+use Rattle.text.specs.Building.{addBranch}
 use Rattle.text.proofs.build.add_branch.Statement.{statement}
 use Rattle.text.proofs.build.add_branch.Tie as tie
-use Rattle.text.proofs.build.add_branch.Reads as reads
-use Rattle.text.proofs.build.add_branch.Lts as lts
 
 cast-n : tie.Need-cast-n
 cast-n c = search needs
