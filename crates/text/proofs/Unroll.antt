@@ -1,18 +1,19 @@
 -- `readType` and `branches` unrolled by one level, a lemma for each case of the first token. Assumes nothing.
 use mathlib.Core.Path.{_≡_, refl, _∙_}
-use mathlib.Core.Bool.{Bool, true, false}
+use mathlib.Core.Bool.{Bool, true, false, cond}
 use mathlib.Core.Logic.{inl, inr}
 use mathlib.Core.List.{List, [], _∷_}
-use Prim.Native.Nat.{ℕ, zero, suc, _-_, _≤_, _<_}
+use Prim.Native.Nat.{ℕ, zero, suc, _+_, _-_, _≤_, _<_}
 use native.Mathlib.Omega.{arith}
 use lib.Dec.{eqb}
 use borrow.Author.Tests.{eq-eqb, ne-eqb, eqb-true, eqb-false}
 use Rattle.table.specs.declared.Table.{Table}
-use Rattle.text.specs.Token.{tokenAt}
+use Rattle.text.specs.Token.{tokenAt, wordIn}
 use Rattle.text.specs.Building.{refused}
-use Rattle.text.specs.Recursive.{unexpectedAt, openRec, nameType, endType, Reader, branchThen, branches, choiceType, recType, typeBy, readType}
+use Rattle.text.specs.Recursive.{unexpectedAt, expectAt, bind, scope, scoped, openRec, nameType, endType, Reader, branchThen, branches, choiceType, recType, typeBy, readType}
 use Rattle.text.specs.declared.token.Token.{Token}
 use Rattle.text.specs.declared.scope.Env.{Env}
+use Rattle.text.specs.declared.step.Step.{Step}
 use types.Run.{OneOf}
 
 -- the reader one level down
@@ -98,3 +99,23 @@ first n = go (eqb n 101) refl (eqb n 65) refl (eqb n 114) refl (eqb n 38) refl (
     go false h false i false j false k true l = first-choice (inr (eqb-true _ _ l))
     go false h false i false j false k false l =
         first-other (eqb-false _ _ h) (eqb-false _ _ i) (eqb-false _ _ j) (λ o. elim o [ inl x ↦ eqb-false _ _ k x | inr x ↦ eqb-false _ _ l x ])
+
+-- a `rec` binds at most one name more
+scoped-count : (s : List ℕ) (k : Token) (e : Env) (n : ℕ) → scoped s k e n .env .count ≤ e .count + 1
+unfolding scoped bind
+scoped-count s k e n = go (eqb (k .kind) 65) (eqb (x .question) 0)
+  where
+    x : Step
+    x = expectAt s (k .end) 46
+
+    go : (y z : Bool)
+        → cond y (cond z (scope 0 (x .at) (bind e (wordIn s k) n)) (scope (x .question) (x .at) e))
+        (scope (unexpectedAt k .question) (unexpectedAt k .at) e) .env .count
+        ≤ e .count + 1
+    go true true = omega arith
+    go true false = omega arith
+    go false z = omega arith
+
+pub rec-count : (s : List ℕ) (p : ℕ) (e : Env) (n : ℕ) → openRec s p e n .env .count ≤ e .count + 1
+unfolding openRec
+rec-count s p e n = scoped-count s (tokenAt s p) e n
