@@ -5,12 +5,13 @@ use mathlib.Core.Bool.{cond, Bool, true, false, not, _&&_}
 use mathlib.Core.List.{List, [], _∷_, _++_, map, append-nil, append-assoc}
 use Prim.Native.Nat.{ℕ, suc, _+_, _≤_, _<_}
 use native.Mathlib.Omega.{arith}
-use lib.Dec.{leb, ltb}
+use lib.Dec.{leb, ltb, eqb}
 use lib.ListN.{length, length-append}
-use borrow.Author.Tests.{eq-eqb, ne-eqb, lt-ltb, le-leb, lt-leb, ltb-true, leb-true, ltb-false, not-true}
+use borrow.Author.Tests.{eq-eqb, lt-ltb, le-leb, lt-leb, ltb-true, leb-true, ltb-false, not-true}
 use Rattle.table.specs.Lists.{every}
 use Rattle.table.specs.declared.Table.{Table}
 use Rattle.table.proofs.Lists.{both, join}
+use Rattle.text.specs.Token.{oneOf}
 use Rattle.text.specs.Number.{Signed, offset, inKind}
 use Rattle.text.specs.Building.{emptyBranch, labelled, fieldAdded, addState, hasLabel}
 use Rattle.text.specs.Reading.{Item, just, name, label, type, more, fields, field, low, high, moreFields, Open, aRec, aChoice, State, state, meaning, inRec, closed, wellFormed, allowed, isFound, bound, guarded, ranged, fresh, within, asked, signOf, sortCode, kindOf, aBranch, aField, target, stored, began, taken}
@@ -35,7 +36,8 @@ not-below a b = go (ltb a b) refl
     go true e = sym (lt-leb b a (ltb-true a b e))
     go false e = sym (le-leb b a (ltb-false a b e))
 
-pub and-true : (x : Bool) → (x && true) ≡ x
+-- a limit is asked, and those after it are not
+and-true : (x : Bool) → _≡_ {A = ℕ} (cond (x && true) 0 8) (cond x 0 8)
 and-true true = refl
 and-true false = refl
 
@@ -44,46 +46,36 @@ abbrev part : ℕ → ℕ → List S.Field → Branch
 part l o fs = raw (record { owner = o; label = l; fields = fs; target = 0 })
 
 module _ (s : List ℕ) where
-  -- a token with which something is counted
+  -- a token with a test, whose no is q
+  tested : {st st' : State} {a : Tok} {us : List Tok} (c : Bool) (q : ℕ) → (q ≡ 0 → ⊥)
+      → ((k : Token) → tokOf s k ≡ a → (asked s st k ≡ cond c 0 q) × (taken s st k ≡ st')) → Goes s (c ≡ true) st (a ∷ us) st' us
+  tested c q z f = one s (λ k h.
+      let a = f k h in
+      ((λ p. a .0 ∙ ap (λ (x : Bool). cond x 0 q) p), (λ e. gate c q z (sym (a .0) ∙ e)), (λ p. a .1)))
+
+  -- a token with which something is counted, or two things
   counted : {st st' : State} {a : Tok} {us : List Tok} (n m : ℕ)
-      → ((k : Token) → tokOf s k ≡ a → (asked s st k ≡ cond (ltb n m) 0 8) × (n < m → taken s st k ≡ st')) → Goes s (n < m) st (a ∷ us) st' us
-  counted n m f = one s (λ k h.
-      let a = f k h .0 in
-      ((λ p. a ∙ ap (λ c. cond c 0 8) (lt-ltb n m p)), (λ z. ltb-true n m (gate (ltb n m) 8 (λ x. omega arith) (sym a ∙ z))), f k h .1))
+      → ((k : Token) → tokOf s k ≡ a → (asked s st k ≡ cond (ltb n m) 0 8) × (taken s st k ≡ st')) → Goes s (n < m) st (a ∷ us) st' us
+  counted n m f = given s (ltb-true n m) (lt-ltb n m) (tested (ltb n m) 8 (λ x. omega arith) f)
 
-  -- a sign that always passes: [ .. ] ( { . and, in the columns of the questions, nothing else
-  plain : (n : ℕ) (E : List Item) (O : List Open) (b : Branch) (T : Table) → (n ≡ 1 → ⊥)
-      → ((k : Token) → k .kind ≡ n → within s (state (just n ∷ E) O b T) k ≡ true)
-      → (k : Token) → tokOf s k ≡ sign n → (asked s (state (just n ∷ E) O b T) k ≡ 0) × (taken s (state (just n ∷ E) O b T) k ≡ state E O b T)
-  unfolding asked wellFormed allowed bound guarded ranged fresh taken
-  plain n E O b T y w k h =
+  counted-both : {st st' : State} {a : Tok} {us : List Tok} (n m i j : ℕ)
+      → ((k : Token) → tokOf s k ≡ a → (asked s st k ≡ cond (ltb n m && ltb i j) 0 8) × (taken s st k ≡ st')) → Goes s ((n < m) × (i < j)) st (a ∷ us) st' us
+  counted-both n m i j f =
+      given s (λ c. let d = both (ltb n m) (ltb i j) c in (ltb-true n m (d .0), ltb-true i j (d .1))) (λ p. join (lt-ltb n m (p .0)) (lt-ltb i j (p .1)))
+      (tested (ltb n m && ltb i j) 8 (λ x. omega arith) f)
+
+  -- a sign with which nothing is counted always passes: [ .. ] ( { .
+  abbrev Uncounted : ℕ → Type 0
+  Uncounted n =
+      (eqb n 1 ≡ false) × (oneOf (43 ∷ 38 ∷ 101 ∷ []) n ≡ false) × (oneOf (33 ∷ 63 ∷ []) n ≡ false) × (oneOf (105 ∷ 116 ∷ 102 ∷ []) n ≡ false)
+      × (oneOf (43 ∷ 38 ∷ 114 ∷ []) n ≡ false)
+
+  plain : (n : ℕ) → Uncounted n → (E : List Item) (O : List Open) (b : Branch) (T : Table) {Q : Type 0} {st : State} {us vs : List Tok}
+      → Goes s Q (state E O b T) us st vs → Goes s Q (state (just n ∷ E) O b T) (sign n ∷ us) st vs
+  unfolding asked wellFormed allowed bound guarded ranged fresh within taken
+  plain n u E O b T g = past s (λ k h.
       let e : k .kind ≡ n = sign-kind s k n h in
-      (rw (ne-eqb (k .kind) 1 (λ x. y (sym e ∙ x)), eq-eqb _ _ e, w k e), refl)
-
-  module _ {Q : Type 0} {st : State} {us vs : List Tok} (E : List Item) (O : List Open) (b : Branch) (T : Table) (g : Goes s Q (state E O b T) us st vs) where
-    left-bracket : Goes s Q (state (just 91 ∷ E) O b T) (sign 91 ∷ us) st vs
-    unfolding within
-    left-bracket = past s (plain 91 E O b T (λ x. omega arith) (λ k h. rw h)) g
-
-    right-bracket : Goes s Q (state (just 93 ∷ E) O b T) (sign 93 ∷ us) st vs
-    unfolding within
-    right-bracket = past s (plain 93 E O b T (λ x. omega arith) (λ k h. rw h)) g
-
-    dots : Goes s Q (state (just 58 ∷ E) O b T) (sign 58 ∷ us) st vs
-    unfolding within
-    dots = past s (plain 58 E O b T (λ x. omega arith) (λ k h. rw h)) g
-
-    left-paren : Goes s Q (state (just 40 ∷ E) O b T) (sign 40 ∷ us) st vs
-    unfolding within
-    left-paren = past s (plain 40 E O b T (λ x. omega arith) (λ k h. rw h)) g
-
-    left-brace : Goes s Q (state (just 123 ∷ E) O b T) (sign 123 ∷ us) st vs
-    unfolding within
-    left-brace = past s (plain 123 E O b T (λ x. omega arith) (λ k h. rw h)) g
-
-    dot : Goes s Q (state (just 46 ∷ E) O b T) (sign 46 ∷ us) st vs
-    unfolding within
-    dot = past s (plain 46 E O b T (λ x. omega arith) (λ k h. rw h)) g
+      (rw (e, u .0, eq-eqb n n refl, u .1, u .2, u .3, u .4), refl)) g
 
   -- ---- fields
 
@@ -91,18 +83,16 @@ module _ (s : List ℕ) where
     low-one : (b : Branch) (κ : ℕ) (n : Signed) {us : List Tok}
         → Goes s (inKind κ n ≡ true) (state (low κ ∷ E) O b T) (number n ∷ us) (state (just 58 ∷ high κ (offset n) ∷ E) O b T) us
     unfolding asked wellFormed allowed bound guarded ranged fresh within taken
-    low-one b κ n = one s (λ k h.
+    low-one b κ n = tested (inKind κ n) 6 (λ x. omega arith) (λ k h.
         let w = number-kind s k n h in
-        let a : asked s (state (low κ ∷ E) O b T) k ≡ cond (inKind κ n) 0 6 = rw (w .0, w .1) in
-        ((λ p. a ∙ ap (λ c. cond c 0 6) p), (λ z. gate (inKind κ n) 6 (λ x. omega arith) (sym a ∙ z)), (λ p. ap (λ (m : Signed). state (just 58 ∷ high κ (offset m) ∷ E) O b T) (w .1))))
+        (rw (w .0, w .1), ap (λ (m : Signed). state (just 58 ∷ high κ (offset m) ∷ E) O b T) (w .1)))
 
     high-one : (b : Branch) (κ l : ℕ) (n : Signed) {us : List Tok}
         → Goes s ((inKind κ n && leb l (offset n)) ≡ true) (state (high κ l ∷ E) O b T) (number n ∷ us) (state E O (fieldAdded b κ l (offset n)) T) us
     unfolding asked wellFormed allowed bound guarded ranged fresh within taken
-    high-one b κ l n = one s (λ k h.
+    high-one b κ l n = tested (inKind κ n && leb l (offset n)) 6 (λ x. omega arith) (λ k h.
         let w = number-kind s k n h in
-        let a : asked s (state (high κ l ∷ E) O b T) k ≡ cond (inKind κ n && leb l (offset n)) 0 6 = rw (w .0, w .1) (ap (λ c. cond (inKind κ n && c) 0 6) (not-below (offset n) l)) in
-        ((λ p. a ∙ ap (λ c. cond c 0 6) p), (λ z. gate (inKind κ n && leb l (offset n)) 6 (λ x. omega arith) (sym a ∙ z)), (λ p. ap (λ (m : Signed). state E O (fieldAdded b κ l (offset m)) T) (w .1))))
+        (rw (w .0, w .1) (ap (λ (c : Bool). cond (inKind κ n && c) 0 6) (not-below (offset n) l)), ap (λ (m : Signed). state E O (fieldAdded b κ l (offset m)) T) (w .1)))
 
     -- the word of a kind
     word-taken : (b : Branch) (κ : Kind) (k : Token) → tokOf s k ≡ sign (letter κ)
@@ -113,21 +103,21 @@ module _ (s : List ℕ) where
     unfolding asked wellFormed allowed bound guarded ranged fresh within taken kindOf
     word-taken b int k e =
         let h : k .kind ≡ 105 = sign-kind s k 105 e in
-        (rw h (ap (λ c. cond c 0 8) (and-true (ltb (b .count) 4))), rw h (ap (λ c. cond c 0 8) (and-true (ltb (b .count) 4))), rw h, rw h)
+        (rw h (and-true (ltb (b .count) 4)), rw h (and-true (ltb (b .count) 4)), rw h, rw h)
     word-taken b text k e =
         let h : k .kind ≡ 116 = sign-kind s k 116 e in
-        (rw h (ap (λ c. cond c 0 8) (and-true (ltb (b .count) 4))), rw h (ap (λ c. cond c 0 8) (and-true (ltb (b .count) 4))), rw h, rw h)
+        (rw h (and-true (ltb (b .count) 4)), rw h (and-true (ltb (b .count) 4)), rw h, rw h)
     word-taken b flag k e =
         let h : k .kind ≡ 102 = sign-kind s k 102 e in
-        (rw h (ap (λ c. cond c 0 8) (and-true (ltb (b .count) 4))), rw h (ap (λ c. cond c 0 8) (and-true (ltb (b .count) 4))), rw h, rw h)
+        (rw h (and-true (ltb (b .count) 4)), rw h (and-true (ltb (b .count) 4)), rw h, rw h)
 
     field-one : (b : Branch) (κ : Kind) {us : List Tok}
         → Goes s (b .count < 4) (state (field ∷ E) O b T) (sign (letter κ) ∷ us) (state (aField (kindCode κ) E) O b T) us
-    field-one b κ = counted (b .count) 4 (λ k h. let w = word-taken b κ k h in (w .0, λ p. w .2))
+    field-one b κ = counted (b .count) 4 (λ k h. let w = word-taken b κ k h in (w .0, w .2))
 
     fields-one : (b : Branch) (κ : Kind) {us : List Tok}
         → Goes s (b .count < 4) (state (fields ∷ E) O b T) (sign (letter κ) ∷ us) (state (aField (kindCode κ) E) O b T) us
-    fields-one b κ = counted (b .count) 4 (λ k h. let w = word-taken b κ k h in (w .1, λ p. w .3))
+    fields-one b κ = counted (b .count) 4 (λ k h. let w = word-taken b κ k h in (w .1, w .3))
 
     -- the parenthesis that closes, and a comma between fields
     closing : (b : Branch) (k : Token) → tokOf s k ≡ sign 41
@@ -156,12 +146,12 @@ module _ (s : List ℕ) where
         let κ = kindCode (f .kind) in
         let b = part l o gs in
         given s (λ c. joined c) (λ c. parted c)
-        (left-bracket (low κ ∷ just 93 ∷ moreFields ∷ E) O b T
+        (plain 91 (refl, refl, refl, refl, refl) (low κ ∷ just 93 ∷ moreFields ∷ E) O b T
         (after s (low-one (just 93 ∷ moreFields ∷ E) O T b κ (f .low))
-        (λ p. dots (high κ (offset (f .low)) ∷ just 93 ∷ moreFields ∷ E) O b T
+        (λ p. plain 58 (refl, refl, refl, refl, refl) (high κ (offset (f .low)) ∷ just 93 ∷ moreFields ∷ E) O b T
         (ending s (high-one (just 93 ∷ moreFields ∷ E) O T b κ (offset (f .low)) (f .high))
         (λ q. out-of s (ap (λ (x : Branch). state (just 93 ∷ moreFields ∷ E) O x T) (add-field l o gs (fieldOf f) room))
-        (right-bracket (moreFields ∷ E) O (part l o (gs ++ (fieldOf f ∷ []))) T (done s)))))))
+        (plain 93 (refl, refl, refl, refl, refl) (moreFields ∷ E) O (part l o (gs ++ (fieldOf f ∷ []))) T (done s)))))))
       where
         x : Bool
         x = inKind (kindCode (f .kind)) (f .low)
@@ -222,16 +212,17 @@ module _ (s : List ℕ) where
   send-one : (w : Way) (E : List Item) (O : List Open) (b : Branch) (T : Table) {us : List Tok}
       → Goes s (T .branches < 128) (state (just (arrow w) ∷ E) O b T) (sign (arrow w) ∷ us) (state E O b T) us
   unfolding asked wellFormed allowed bound guarded ranged fresh within taken
-  send-one sends E O b T = counted (T .branches) 128 (λ k e. let h : k .kind ≡ 33 = sign-kind s k 33 e in (rw h (ap (λ c. cond c 0 8) (and-true (ltb (T .branches) 128))), λ p. refl))
-  send-one receives E O b T = counted (T .branches) 128 (λ k e. let h : k .kind ≡ 63 = sign-kind s k 63 e in (rw h (ap (λ c. cond c 0 8) (and-true (ltb (T .branches) 128))), λ p. refl))
+  send-one sends E O b T = counted (T .branches) 128 (λ k e. let h : k .kind ≡ 33 = sign-kind s k 33 e in (rw h (and-true (ltb (T .branches) 128)), refl))
+  send-one receives E O b T = counted (T .branches) 128 (λ k e. let h : k .kind ≡ 63 = sign-kind s k 63 e in (rw h (and-true (ltb (T .branches) 128)), refl))
 
   label-one : (l o : ℕ) (E : List Item) (O : List Open) (b : Branch) (T : Table) {us : List Tok}
       → Goes s (hasLabel T o l ≡ false) (state (label ∷ E) (aChoice o ∷ O) b T) (word l ∷ us) (state E (aChoice o ∷ O) (labelled l o) T) us
   unfolding asked wellFormed allowed bound guarded ranged fresh within taken
-  label-one l o E O b T = one s (λ k h.
+  label-one l o E O b T =
+      given s (not-true (hasLabel T o l)) (ap not)
+      (tested (not (hasLabel T o l)) 7 (λ x. omega arith) (λ k h.
       let w = word-kind s k l h in
-      let a : asked s (state (label ∷ E) (aChoice o ∷ O) b T) k ≡ cond (not (hasLabel T o l)) 0 7 = rw (w .0, w .1) in
-      ((λ p. a ∙ ap (λ c. cond (not c) 0 7) p), (λ z. not-true (hasLabel T o l) (gate (not (hasLabel T o l)) 7 (λ x. omega arith) (sym a ∙ z))), (λ p. ap (λ (m : ℕ). state E (aChoice o ∷ O) (labelled m o) T) (w .1))))
+      (rw (w .0, w .1), ap (λ (m : ℕ). state E (aChoice o ∷ O) (labelled m o) T) (w .1))))
 
   rows-laid : (ss : List S.Sort) (rs : List Row) → laid ss rs .branches ≡ length rs
   unfolding laid
@@ -246,9 +237,9 @@ module _ (s : List ℕ) where
       given s (λ c. (omega (arith, c .0), (sym (has-laid ss rs o l) ∙ c .1 .0, c .1 .1))) (λ c. (omega (arith, c .0), (has-laid ss rs o l ∙ c .1 .0, c .1 .1)))
       (after s (send-one w (label ∷ just 40 ∷ fields ∷ just 46 ∷ type ∷ more (arrow w) ∷ E) (aChoice o ∷ O) emptyBranch T)
       (λ p. after s (label-one l o (just 40 ∷ fields ∷ just 46 ∷ type ∷ more (arrow w) ∷ E) O emptyBranch T)
-      (λ q. left-paren (fields ∷ just 46 ∷ type ∷ more (arrow w) ∷ E) (aChoice o ∷ O) (labelled l o) T
+      (λ q. plain 40 (refl, refl, refl, refl, refl) (fields ∷ just 46 ∷ type ∷ more (arrow w) ∷ E) (aChoice o ∷ O) (labelled l o) T
       (ending s (fields-law (just 46 ∷ type ∷ more (arrow w) ∷ E) (aChoice o ∷ O) T l o fs)
-      (λ r. dot (type ∷ more (arrow w) ∷ E) (aChoice o ∷ O) (part l o (map fieldOf fs)) T (done s))))))
+      (λ r. plain 46 (refl, refl, refl, refl, refl) (type ∷ more (arrow w) ∷ E) (aChoice o ∷ O) (part l o (map fieldOf fs)) T (done s))))))
 
   -- ---- the first token of a type; W is the table with the branch that leads to it
 
@@ -258,7 +249,7 @@ module _ (s : List ℕ) where
     unfolding asked wellFormed allowed bound guarded ranged fresh within taken began target
     end-one e = counted (T .states) 32 (λ k f.
         let h : k .kind ≡ 101 = sign-kind s k 101 f in
-        (rw h (ap (λ c. cond c 0 8) (and-true (ltb (T .states) 32))), λ p. rw h (ap (λ (x : Table). state E (closed O) emptyBranch (addState x 0)) e)))
+        (rw h (and-true (ltb (T .states) 32)), rw h (ap (λ (x : Table). state E (closed O) emptyBranch (addState x 0)) e)))
 
     var-one : (x : ℕ) {us : List Tok} → stored O b T (or-else (meaning O x) (T .states)) ≡ W
         → Goes s ((isFound (meaning O x) ≡ true) × (inRec O ≡ false)) (state (type ∷ E) O b T) (word x ∷ us) (state E (closed O) emptyBranch W) us
@@ -278,32 +269,18 @@ module _ (s : List ℕ) where
     unfolding asked wellFormed allowed bound guarded ranged fresh within taken began target
     rec-one e = counted (length O) 16 (λ k f.
         let h : k .kind ≡ 114 = sign-kind s k 114 f in
-        (rw h, λ p. rw h (ap (state (name ∷ just 46 ∷ type ∷ E) O emptyBranch) e)))
+        (rw h, rw h (ap (state (name ∷ just 46 ∷ type ∷ E) O emptyBranch) e)))
 
     choice-one : (w : Way) {us : List Tok} → stored O b T (T .states) ≡ W
         → Goes s ((T .states < 32) × (length O < 16)) (state (type ∷ E) O b T) (sign (mark w) ∷ us)
         (state (just 123 ∷ aBranch (arrow w) E) (aChoice (W .states) ∷ O) emptyBranch (addState W (codeOf (sortOf w)))) us
     unfolding asked wellFormed allowed bound guarded ranged fresh within taken began target signOf sortCode
-    choice-one sends e = one s (λ k f.
+    choice-one sends e = counted-both (T .states) 32 (length O) 16 (λ k f.
         let h : k .kind ≡ 43 = sign-kind s k 43 f in
-        let a : asked s (state (type ∷ E) O b T) k ≡ cond (ltb (T .states) 32 && ltb (length O) 16) 0 8 = rw h in
-        ((λ p. a ∙ ap (λ c. cond c 0 8) (full p)), (λ z. room (gate (ltb (T .states) 32 && ltb (length O) 16) 8 (λ x. omega arith) (sym a ∙ z))), (λ p. rw h (ap (λ (x : Table). state (just 123 ∷ aBranch 33 E) (aChoice (x .states) ∷ O) emptyBranch (addState x 1)) e))))
-      where
-        full : (T .states < 32) × (length O < 16) → (ltb (T .states) 32 && ltb (length O) 16) ≡ true
-        full p = join (lt-ltb _ _ (p .0)) (lt-ltb _ _ (p .1))
-
-        room : (ltb (T .states) 32 && ltb (length O) 16) ≡ true → (T .states < 32) × (length O < 16)
-        room c = let d = both (ltb (T .states) 32) (ltb (length O) 16) c in (ltb-true _ _ (d .0), ltb-true _ _ (d .1))
-    choice-one receives e = one s (λ k f.
+        (rw h, rw h (ap (λ (x : Table). state (just 123 ∷ aBranch 33 E) (aChoice (x .states) ∷ O) emptyBranch (addState x 1)) e)))
+    choice-one receives e = counted-both (T .states) 32 (length O) 16 (λ k f.
         let h : k .kind ≡ 38 = sign-kind s k 38 f in
-        let a : asked s (state (type ∷ E) O b T) k ≡ cond (ltb (T .states) 32 && ltb (length O) 16) 0 8 = rw h in
-        ((λ p. a ∙ ap (λ c. cond c 0 8) (full p)), (λ z. room (gate (ltb (T .states) 32 && ltb (length O) 16) 8 (λ x. omega arith) (sym a ∙ z))), (λ p. rw h (ap (λ (x : Table). state (just 123 ∷ aBranch 63 E) (aChoice (x .states) ∷ O) emptyBranch (addState x 2)) e))))
-      where
-        full : (T .states < 32) × (length O < 16) → (ltb (T .states) 32 && ltb (length O) 16) ≡ true
-        full p = join (lt-ltb _ _ (p .0)) (lt-ltb _ _ (p .1))
-
-        room : (ltb (T .states) 32 && ltb (length O) 16) ≡ true → (T .states < 32) × (length O < 16)
-        room c = let d = both (ltb (T .states) 32) (ltb (length O) 16) c in (ltb-true _ _ (d .0), ltb-true _ _ (d .1))
+        (rw h, rw h (ap (λ (x : Table). state (just 123 ∷ aBranch 63 E) (aChoice (x .states) ∷ O) emptyBranch (addState x 2)) e)))
 
   -- the name of a rec
   name-one : (x : ℕ) (E : List Item) (O : List Open) (b : Branch) (T : Table) (k : Token) → tokOf s k ≡ word x
@@ -385,13 +362,13 @@ module _ (s : List ℕ) where
         let P = aRec x (length ss) ∷ O in
         after s (rec-one E O b T (laid ss rs) e)
         (λ p. past s (name-laid x (just 46 ∷ type ∷ E) O emptyBranch ss rs)
-        (dot (type ∷ E) P emptyBranch (laid ss rs) (type-law t E P emptyBranch (laid ss rs) ss rs us refl (states-laid ss rs))))
+        (plain 46 (refl, refl, refl, refl, refl) (type ∷ E) P emptyBranch (laid ss rs) (type-law t E P emptyBranch (laid ss rs) ss rs us refl (states-laid ss rs))))
     type-law (choice w bs) E O b T ss rs us e n =
         let o = length ss in
         let c = sortOf w ∷ [] in
         let k : length (ss ++ c) ≡ suc o = omega (arith, length-append ss c) in
         after s (choice-laid E O b T ss rs n w e)
-        (λ p. left-brace (aBranch (arrow w) E) (aChoice o ∷ O) emptyBranch (laid (ss ++ c) rs)
+        (λ p. plain 123 (refl, refl, refl, refl, refl) (aBranch (arrow w) E) (aChoice o ∷ O) emptyBranch (laid (ss ++ c) rs)
         (into s (ap (λ (x : List S.Sort). state E (closed O) emptyBranch (laid x (rs ++ rowsBr bs (meaning O) o (suc o)))) (append-assoc ss c (sortsBr bs)))
         (subst (Over bs w E O o (ss ++ c) rs us) k (branches-law bs w E O o (ss ++ c) rs us))))
 

@@ -51,11 +51,6 @@ abbrev Small : List ℕ → Type 0
 Small [] = Unit {0}
 Small (b ∷ w) = (b < 256) × Small w
 
-nothing-packed : (n : ℕ) → packed n [] ≡ 0
-unfolding packed
-nothing-packed zero = refl
-nothing-packed (suc n) = refl
-
 packed-below : (n : ℕ) (w : List ℕ) → Small w → packed n w < 256 ^ n
 unfolding packed
 packed-below zero w h = omega arith
@@ -83,10 +78,15 @@ packed-bytes (suc n) (b ∷ w) h l =
     ap₂ _∷_ (high-byte n b (packed n w) (h .0) (packed-below n w (h .1)))
     (bytes-same n (b * 256 ^ n + packed n w) (packed n w) (λ i m. low-byte n b (packed n w) i m) ∙ packed-bytes n w (h .1) (le-of-suc-le-suc l))
 
+zeros-packed : (n : ℕ) → packed n (padded n []) ≡ 0
+unfolding packed
+zeros-packed zero = refl
+zeros-packed (suc n) = omega (arith, zero-mul (256 ^ n), zeros-packed n)
+
 packed-padded : (n : ℕ) (w : List ℕ) → packed n (padded n w) ≡ packed n w
 unfolding packed
 packed-padded zero w = refl
-packed-padded (suc n) [] = omega (arith, zero-mul (256 ^ n), packed-padded n [], nothing-packed n)
+packed-padded (suc n) [] = zeros-packed (suc n)
 packed-padded (suc n) (b ∷ w) = ap (λ (x : ℕ). b * 256 ^ n + x) (packed-padded n w)
 
 -- ---- labels
