@@ -38,10 +38,10 @@ fours f (r ∷ rs) =
 
 unfoldable pub laid : List T.Sort → List Row → D.Table
 laid ss rs =
-    columns (length ss) (length rs) (padded 32 (map codeOf ss)) (padded 128 (map (λ r. r .owner) rs))
-    (padded 128 (map (λ r. r .target) rs))
-    (padded 128 (map (λ r. length (r .fields)) rs))
-    (padded 128 (map (λ r. r .label) rs))
+    columns (length ss) (length rs) (padded T.states-most (map codeOf ss)) (padded T.branches-most (map (λ r. r .owner) rs))
+    (padded T.branches-most (map (λ r. r .target) rs))
+    (padded T.branches-most (map (λ r. length (r .fields)) rs))
+    (padded T.branches-most (map (λ r. r .label) rs))
     (padded 512 (fours (λ f. f .kind) rs))
     (padded 512 (fours (λ f. f .low) rs))
     (padded 512 (fours (λ f. f .high) rs))

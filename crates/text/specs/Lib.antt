@@ -1,5 +1,6 @@
 -- What a reader has to believe of protocol texts, in document 01's order: tokens, numbers, the grammar with the table that a
--- type means, how a table is built, and reading with its questions. Recursive is only what the inner functions say.
+-- type means, how a table is built, and reading with its questions; then, for the theorems that join reading to the grammar, a
+-- table as columns and what a refusal by 3 means. Recursive is only what the inner functions say.
 pub mod Kind
 pub mod Token
 pub mod Number
