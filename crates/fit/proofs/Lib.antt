@@ -1,0 +1,12 @@
+pub mod Lists
+pub mod Made
+pub mod Allow
+pub mod Heard
+pub mod Sound
+pub mod Safe
+pub mod Links
+pub mod Play
+pub mod Shown
+pub mod Count
+pub mod Demand
+pub mod Itself

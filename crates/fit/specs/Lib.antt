@@ -3,3 +3,4 @@
 pub mod Machine
 pub mod Fit
 pub mod Answer
+pub mod Search

@@ -107,7 +107,7 @@ upto-differ (suc n) g h =
 
 -- ---- labels and sorts
 
-same-eq : (xs ys : List ℕ) → same xs ys ≡ true → xs ≡ ys
+pub same-eq : (xs ys : List ℕ) → same xs ys ≡ true → xs ≡ ys
 unfolding same matched
 same-eq [] [] e = refl
 same-eq [] (y ∷ ys) e = absurd (false≢true e)
@@ -115,7 +115,7 @@ same-eq (x ∷ xs) [] e = absurd (false≢true e)
 same-eq (x ∷ xs) (y ∷ ys) e =
     ap₂ _∷_ (eqb-true x y (both (eqb x y) (same xs ys) e .0)) (same-eq xs ys (both (eqb x y) (same xs ys) e .1))
 
-same-refl : (xs : List ℕ) → same xs xs ≡ true
+pub same-refl : (xs : List ℕ) → same xs xs ≡ true
 unfolding same matched
 same-refl [] = refl
 same-refl (x ∷ xs) = join (eq-eqb x x refl) (same-refl xs)
@@ -174,15 +174,15 @@ pub record Facts (t : D.Table) : Type 0 where
   pub differ : (i j : ℕ) → i < j → j < t .branches → getD (t .owner) i 0 ≡ getD (t .owner) j 0 → getD (t .label) i 0 ≡ getD (t .label) j 0 → ⊥
 
 module _ (t : D.Table) where
-  sorts-of : length (view t .sorts) ≡ t .states
+  pub sorts-of : length (view t .sorts) ≡ t .states
   unfolding view
   sorts-of = upto-length (t .states) (λ i. sortOf (getD (t .sort) i 0))
 
-  branches-of : length (view t .branches) ≡ t .branches
+  pub branches-of : length (view t .branches) ≡ t .branches
   unfolding view
   branches-of = upto-length (t .branches) (branchAt t)
 
-  sort-of : (i : ℕ) → i < t .states → T.sort (view t) i ≡ sortOf (getD (t .sort) i 0)
+  pub sort-of : (i : ℕ) → i < t .states → T.sort (view t) i ≡ sortOf (getD (t .sort) i 0)
   unfolding view T.sort
   sort-of i l = upto-at (t .states) (λ i. sortOf (getD (t .sort) i 0)) T.ends i l
 
