@@ -10,3 +10,5 @@ pub mod Shown
 pub mod Count
 pub mod Demand
 pub mod Itself
+pub mod Pairs
+pub mod Search
