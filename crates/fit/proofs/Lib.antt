@@ -12,3 +12,5 @@ pub mod Demand
 pub mod Itself
 pub mod Pairs
 pub mod Search
+pub mod Ranges
+pub mod Covering

@@ -273,6 +273,15 @@ module _ (t : D.Table) where
       owner-below : (k : ℕ) → k < t .branches → getD (t .owner) k 0 < t .states
       owner-below k l = omega (arith, ltb-true (getD (t .owner) k 0) (length (view t .sorts)) (at k l .owner), sorts-of)
 
+  -- labels of one state differ as lists of bytes, too
+  pub labels-apart : soundOf t ≡ true → (i j : ℕ) → i < j → j < t .branches → getD (t .owner) i 0 ≡ getD (t .owner) j 0
+      → labelOf (getD (t .label) i 0) ≡ labelOf (getD (t .label) j 0) → ⊥
+  unfolding view clash
+  labels-apart e i j l m p q =
+      never (join (eq-eqb (getD (t .owner) i 0) (getD (t .owner) j 0) p)
+      (subst (λ w. same (labelOf (getD (t .label) i 0)) w ≡ true) q (same-refl (labelOf (getD (t .label) i 0)))))
+      (differ-upto (t .branches) (branchAt t) (tests e .apart) i j l m)
+
   pub facts-sound : ((k : ℕ) → k < t .branches → Word (getD (t .label) k 0)) → Facts t → soundOf t ≡ true
   unfolding soundOf known T.sound view legal-branch clash
   facts-sound small f =
