@@ -14,3 +14,7 @@ pub mod Pairs
 pub mod Search
 pub mod Ranges
 pub mod Covering
+pub mod Turns
+pub mod Columns
+pub mod Speaking
+pub mod Meeting
