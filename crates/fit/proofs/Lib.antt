@@ -18,3 +18,5 @@ pub mod Turns
 pub mod Columns
 pub mod Speaking
 pub mod Meeting
+pub mod Following
+pub mod Visiting
