@@ -20,3 +20,4 @@ pub mod Speaking
 pub mod Meeting
 pub mod Following
 pub mod Visiting
+pub mod Sets
