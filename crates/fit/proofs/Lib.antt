@@ -21,3 +21,5 @@ pub mod Meeting
 pub mod Following
 pub mod Visiting
 pub mod Sets
+pub mod Exploring
+pub mod Unwinding
