@@ -23,3 +23,4 @@ pub mod Visiting
 pub mod Sets
 pub mod Exploring
 pub mod Unwinding
+pub mod Answers
