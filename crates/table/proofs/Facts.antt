@@ -174,7 +174,7 @@ pub record Facts (t : D.Table) : Type 0 where
   pub differ : (i j : ℕ) → i < j → j < t .branches → getD (t .owner) i 0 ≡ getD (t .owner) j 0 → getD (t .label) i 0 ≡ getD (t .label) j 0 → ⊥
 
 module _ (t : D.Table) where
-  sorts-of : length (view t .sorts) ≡ t .states
+  pub sorts-of : length (view t .sorts) ≡ t .states
   unfolding view
   sorts-of = upto-length (t .states) (λ i. sortOf (getD (t .sort) i 0))
 
@@ -182,7 +182,7 @@ module _ (t : D.Table) where
   unfolding view
   branches-of = upto-length (t .branches) (branchAt t)
 
-  sort-of : (i : ℕ) → i < t .states → T.sort (view t) i ≡ sortOf (getD (t .sort) i 0)
+  pub sort-of : (i : ℕ) → i < t .states → T.sort (view t) i ≡ sortOf (getD (t .sort) i 0)
   unfolding view T.sort
   sort-of i l = upto-at (t .states) (λ i. sortOf (getD (t .sort) i 0)) T.ends i l
 
@@ -272,6 +272,15 @@ module _ (t : D.Table) where
 
       owner-below : (k : ℕ) → k < t .branches → getD (t .owner) k 0 < t .states
       owner-below k l = omega (arith, ltb-true (getD (t .owner) k 0) (length (view t .sorts)) (at k l .owner), sorts-of)
+
+  -- labels of one state differ as lists of bytes, too
+  pub labels-apart : soundOf t ≡ true → (i j : ℕ) → i < j → j < t .branches → getD (t .owner) i 0 ≡ getD (t .owner) j 0
+      → labelOf (getD (t .label) i 0) ≡ labelOf (getD (t .label) j 0) → ⊥
+  unfolding view clash
+  labels-apart e i j l m p q =
+      never (join (eq-eqb (getD (t .owner) i 0) (getD (t .owner) j 0) p)
+      (subst (λ w. same (labelOf (getD (t .label) i 0)) w ≡ true) q (same-refl (labelOf (getD (t .label) i 0)))))
+      (differ-upto (t .branches) (branchAt t) (tests e .apart) i j l m)
 
   pub facts-sound : ((k : ℕ) → k < t .branches → Word (getD (t .label) k 0)) → Facts t → soundOf t ≡ true
   unfolding soundOf known T.sound view legal-branch clash
