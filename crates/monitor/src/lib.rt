@@ -2,6 +2,8 @@
 ghost use mathlib.Core.Path.{_≡_};
 ghost use Rattle.monitor.specs.Step.{running};
 
+mod judge;
+
 pub enum Party {
     Device,
     Host,
