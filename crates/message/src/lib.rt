@@ -1,5 +1,107 @@
 // Messages of document 01: question 13, 14 and 15 over any bytes, and the message made from a table's branch.
+// Reading copies nothing: label, kinds and numbers are read where they stand.
 ghost use mathlib.Core.Path.{_≡_};
+ghost use Rattle.message.specs.Message.{number-at, label-word, has-label, frontOf, refusal};
+
+mod fields;
+
+// What the front of some bytes tells: the first of 13 and 14 that gets a no, and length 0; or 0, and the length that the message announces.
+pub struct Head {
+    pub question: u8,
+    pub length: usize,
+}
+
+// 13 and 14 of bytes that may go on, or stop before the texts' end.
+pub fn front(bytes: &[u8]) -> Head
+    ensures { λ r. ⌜ r ≡ frontOf (now (bytes .entry)) ⌝ }
+{
+    let size = bytes.len();
+    if size < 9 {
+        return Head {
+            question: 13,
+            length: 0,
+        };
+    }
+    if !table::label_legal(label_word(bytes)) {
+        return Head {
+            question: 13,
+            length: 0,
+        };
+    }
+    let count = bytes[8] as usize;
+    if 4 < count {
+        return Head {
+            question: 13,
+            length: 0,
+        };
+    }
+    let texts = 9 + 5 * count;
+    if size < texts {
+        return Head {
+            question: 13,
+            length: 0,
+        };
+    }
+    let f = fields::scan(bytes, count);
+    if !f.ok {
+        return Head {
+            question: 14,
+            length: 0,
+        };
+    }
+    Head {
+        question: 0,
+        length: texts + f.texts,
+    }
+}
+
+// 13, 14 and 15: the number of the first that gets a no, or 0.
+pub fn refusal(bytes: &[u8]) -> u8
+    ensures { λ r. ⌜ r ≡ refusal (now (bytes .entry)) ⌝ }
+{
+    let head = front(bytes);
+    if head.question != 0 {
+        return head.question;
+    }
+    if bytes.len() != head.length {
+        return 15;
+    }
+    0
+}
+
+// The first eight bytes as one number, high byte first: a label as a table has it. 0 where there are fewer.
+pub fn label_word(bytes: &[u8]) -> u64
+    ensures { λ r. ⌜ r ≡ label-word (now (bytes .entry)) ⌝ }
+{
+    if bytes.len() < 8 {
+        return 0;
+    }
+    fields::word(bytes, 0) * 4294967296 + fields::word(bytes, 4)
+}
+
+// Whether the bytes begin with a table's label: one compare of words.
+pub fn has_label(bytes: &[u8], label: u64) -> bool
+    ensures { λ r. ⌜ r ≡ has-label (now (bytes .entry)) label ⌝ }
+{
+    if bytes.len() < 8 {
+        return false;
+    }
+    label_word(bytes) == label
+}
+
+// The number in offset form whose four bytes stand at a place; 0 where they do not.
+pub fn number(bytes: &[u8], at: usize) -> u32
+    ensures { λ r. ⌜ r ≡ number-at (now (bytes .entry)) at ⌝ }
+{
+    let size = bytes.len();
+    if size < 4 {
+        return 0;
+    }
+    if size - 4 < at {
+        return 0;
+    }
+    fields::number_here(bytes, at)
+}
 
 // The one field of a made message that is high, if any is.
 pub enum High {

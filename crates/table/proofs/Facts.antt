@@ -107,7 +107,7 @@ upto-differ (suc n) g h =
 
 -- ---- labels and sorts
 
-same-eq : (xs ys : List ℕ) → same xs ys ≡ true → xs ≡ ys
+pub same-eq : (xs ys : List ℕ) → same xs ys ≡ true → xs ≡ ys
 unfolding same matched
 same-eq [] [] e = refl
 same-eq [] (y ∷ ys) e = absurd (false≢true e)
@@ -115,7 +115,7 @@ same-eq (x ∷ xs) [] e = absurd (false≢true e)
 same-eq (x ∷ xs) (y ∷ ys) e =
     ap₂ _∷_ (eqb-true x y (both (eqb x y) (same xs ys) e .0)) (same-eq xs ys (both (eqb x y) (same xs ys) e .1))
 
-same-refl : (xs : List ℕ) → same xs xs ≡ true
+pub same-refl : (xs : List ℕ) → same xs xs ≡ true
 unfolding same matched
 same-refl [] = refl
 same-refl (x ∷ xs) = join (eq-eqb x x refl) (same-refl xs)
