@@ -65,10 +65,10 @@ of-state t s =
     ∷ (11, is-choice (sort (view t) (s .position)))
     ∷ []
 
--- 12. Is it this side's turn? 13, 14, 15: is the message well formed? 16. Does the output buffer hold it?
-unfoldable pub of-message : Table → State → Party → List ℕ → ℕ → List (ℕ × Bool)
-of-message t s side message room =
-    (12, is-party side (speaker (sort (view t) (s .position))))
+-- at a state of some sort: 12. Is it this side's turn? 13, 14, 15: is the message well formed? 16. Does the output buffer hold it?
+unfoldable pub of-message : Sort → Party → List ℕ → ℕ → List (ℕ × Bool)
+of-message sort side message room =
+    (12, is-party side (speaker sort))
     ∷ (13, whole message)
     ∷ (14, legal-values message)
     ∷ (15, exact message)
@@ -76,7 +76,7 @@ of-message t s side message room =
     ∷ []
 
 unfoldable pub asked : Table → State → Party → List ℕ → ℕ → ℕ
-asked t s side message room = first-no (of-state t s ++ of-message t s side message room)
+asked t s side message room = first-no (of-state t s ++ of-message (sort (view t) (s .position)) side message room)
 
 -- ---- the verdict in document 01's numbers
 

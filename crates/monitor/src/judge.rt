@@ -27,7 +27,7 @@ pub fn judge<'a>(
     low: &'a [u32; 512],
     high: &'a [u32; 512],
     position: u8,
-    message: &'a [u8],
+    message: &[u8],
 ) -> Judged
     requires { ⌜ (branches ≤ 128) × ((k : ℕ) → k < branches → getD (now fields) k 0 ≤ 4) × (whole (now message) ≡ true) ⌝ }
     ensures { λ r. ⌜ judgement r ≡ judge-among (branches-of branches (now (owner .entry)) (now (target .entry)) (now (fields .entry)) (now (label .entry)) (now (kind .entry)) (now (low .entry)) (now (high .entry))) position (read (now (message .entry))) ⌝ }
@@ -77,7 +77,7 @@ fn same_word(a: u64, b: u64) -> bool
 }
 
 // Whether the message's kinds are those from place `at` on.
-fn same_kinds<'a>(kind: &'a [u8; 512], at: usize, count: u8, message: &'a [u8]) -> bool
+fn same_kinds(kind: &[u8; 512], at: usize, count: u8, message: &[u8]) -> bool
     requires { ⌜ (at ≤ 508) × (count ≤ 4) × (9 + count ≤ length (now message)) ⌝ }
     ensures { λ r. ⌜ r ≡ all count (λ f. kind-is (now (kind .entry)) (now (message .entry)) (at + f) f) ⌝ }
 {
@@ -98,7 +98,7 @@ fn first_outside<'a>(
     high: &'a [u32; 512],
     at: usize,
     count: u8,
-    message: &'a [u8],
+    message: &[u8],
 ) -> u8
     requires { ⌜ (at ≤ 508) × (count ≤ 4) × (count ≡ count-of (now message)) ⌝ }
     ensures { λ r. ⌜ First (λ f. not (inside (now (low .entry)) (now (high .entry)) (now (message .entry)) (at + f) f)) count r ⌝ }
