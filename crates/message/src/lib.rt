@@ -1,7 +1,7 @@
 // Messages of document 01: question 13, 14 and 15 over any bytes, and the message made from a table's branch.
 // Reading copies nothing: label, kinds and numbers are read where they stand.
 ghost use mathlib.Core.Path.{_≡_};
-ghost use Rattle.message.specs.Message.{number-at, label-word, has-label, frontOf, refusal};
+ghost use Rattle.message.specs.Message.{number-at, label-word, has-label, whole, frontOf, refusal};
 
 mod fields;
 
@@ -15,33 +15,13 @@ pub struct Head {
 pub fn front(bytes: &[u8]) -> Head
     ensures { λ r. ⌜ r ≡ frontOf (now (bytes .entry)) ⌝ }
 {
-    let size = bytes.len();
-    if size < 9 {
-        return Head {
-            question: 13,
-            length: 0,
-        };
-    }
-    if !table::label_legal(label_word(bytes)) {
+    if !whole(bytes) {
         return Head {
             question: 13,
             length: 0,
         };
     }
     let count = bytes[8] as usize;
-    if 4 < count {
-        return Head {
-            question: 13,
-            length: 0,
-        };
-    }
-    let texts = 9 + 5 * count;
-    if size < texts {
-        return Head {
-            question: 13,
-            length: 0,
-        };
-    }
     let f = fields::scan(bytes, count);
     if !f.ok {
         return Head {
@@ -51,8 +31,26 @@ pub fn front(bytes: &[u8]) -> Head
     }
     Head {
         question: 0,
-        length: texts + f.texts,
+        length: 9 + 5 * count + f.texts,
     }
+}
+
+// 13. Are there nine bytes, a legal label, a count of at most 4, and both arrays whole?
+fn whole(bytes: &[u8]) -> bool
+    ensures { λ r. ⌜ r ≡ whole (now (bytes .entry)) ⌝ }
+{
+    let size = bytes.len();
+    if size < 9 {
+        return false;
+    }
+    if !table::label_legal(label_word(bytes)) {
+        return false;
+    }
+    let count = bytes[8] as usize;
+    if 4 < count {
+        return false;
+    }
+    9 + 5 * count <= size
 }
 
 // 13, 14 and 15: the number of the first that gets a no, or 0.
