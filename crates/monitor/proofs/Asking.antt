@@ -13,7 +13,7 @@ use borrow.Author.Tests.{ne-eqb, lt-ltb, le-ltb, ltb-true, le-leb, lt-leb, leb-t
 use Rattle.table.specs.Table.{Sort, is-choice, sort}
 use Rattle.table.specs.View.{view, sortOf, soundOf, soundAt}
 use Rattle.table.specs.declared.Table.{Table}
-use Rattle.table.proofs.Lists.{both, join, left-fails, right-fails}
+use Rattle.table.proofs.Lists.{never, both, join, left-fails, right-fails}
 use Rattle.table.proofs.Facts.{Facts, sound-facts, sort-of}
 use Rattle.message.specs.Message.{read, whole, legal-values, exact, refusal}
 use Rattle.message.specs.Judge.{Judgement, allowed, no-label, other-kinds, out-of-range, judge}
@@ -67,17 +67,25 @@ module _ (t : Table) (s : State) where
   pub record Opened : Type 0 where
     pub facts : Facts t
     pub below : s .position < t .states
+    pub choice : getD (t .sort) (s .position) 0 ≡ 0 → ⊥
 
   pub opened : first-no (of-state t s) ≡ 0 → Opened
-  unfolding first-no of-state soundAt
+  unfolding first-no of-state soundAt sortOf is-choice
   opened h =
-      let e = sound-here (soundOf t && ltb (s .position) (t .states)) (running (s .standing)) (is-choice (sort (view t) (s .position))) h in
-      let b = both (soundOf t) (ltb (s .position) (t .states)) e in
-      record { facts = sound-facts t (b .0); below = ltb-true (s .position) (t .states) (b .1) }
+      let e = all-three (soundOf t && ltb (s .position) (t .states)) (running (s .standing)) (is-choice (sort (view t) (s .position))) h in
+      let b = both (soundOf t) (ltb (s .position) (t .states)) (e .0) in
+      let l = ltb-true (s .position) (t .states) (b .1) in
+      record { facts = sound-facts t (b .0); below = l; choice = λ z. no-choice (getD (t .sort) (s .position) 0) z (ap is-choice (sym (sort-of t (s .position) l)) ∙ e .1) }
     where
-      sound-here : (a b c : Bool) → three a b c 0 ≡ 0 → a ≡ true
-      sound-here true b c h = refl
-      sound-here false b c h = absurd (omega (arith, h))
+      all-three : (a b c : Bool) → three a b c 0 ≡ 0 → (a ≡ true) × (c ≡ true)
+      all-three true true true h = (refl, refl)
+      all-three true true false h = absurd (omega (arith, h))
+      all-three true false c h = absurd (omega (arith, h))
+      all-three false b c h = absurd (omega (arith, h))
+
+      no-choice : (n : ℕ) → n ≡ 0 → is-choice (sortOf n) ≡ true → ⊥
+      no-choice zero z e = never e refl
+      no-choice (suc n) z e = absurd (omega arith)
 
 -- ---- 12 to 16
 
