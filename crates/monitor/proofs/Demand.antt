@@ -13,13 +13,13 @@ use lib.Dec.{leb, ltb, eqb}
 use borrow.Author.Tests.{leb-true, le-leb, lt-ltb}
 use Rattle.table.specs.Table as T
 use Rattle.table.specs.Lists.{upto}
-use Rattle.table.specs.View.{view, branchAt, soundOf, soundAt}
+use Rattle.table.specs.View.{view, branchAt, known, soundOf, soundAt}
 use Rattle.table.specs.declared.Table as D
 use Rattle.table.proofs.Lists.{never, both, join}
 use Rattle.table.proofs.Facts.{Facts, sound-facts}
 use Rattle.message.specs.Message.{Message, read, whole, legal-values, exact, well-formed}
-use Rattle.message.specs.Judge.{Judgement, allowed, carries, goes, allows, judge}
-use Rattle.message.specs.Make.{opening}
+use Rattle.message.specs.Judge.{Judgement, allowed, no-label, other-kinds, out-of-range, carries, goes, allows, judge}
+use Rattle.message.proofs.Judging.{judge-allows}
 use Rattle.monitor.specs.declared.Party.{Party}
 use Rattle.monitor.specs.declared.Party.the-variants.{Device, Host}
 use Rattle.monitor.specs.declared.Standing.{Standing}
@@ -192,9 +192,28 @@ refused-eq e = cc
 blamed-eq : {p q : Party} {r x : ℕ} {f g : Option ℕ} → blamed p r f ≡ blamed q x g → (p ≡ q) × (r ≡ x) × (f ≡ g)
 blamed-eq e = (cc, cc, cc)
 
+-- ---- judging and allowing
+
+agree : (t : D.Table) → soundOf t ≡ true → (i : ℕ) (m : Message) → allows (view t) i m ≡ target-of (judge (view t) i m)
+unfolding soundOf target-of
+agree t e i m = go (judge (view t) i m) refl
+  where
+    sound : T.sound (view t) ≡ true
+    sound = both (known t) (T.sound (view t)) e .1
+
+    nowhere : (o : Option ℕ) → allows (view t) i m ≡ o → ((j : ℕ) → judge (view t) i m ≡ allowed j → ⊥) → o ≡ none
+    nowhere none h n = refl
+    nowhere (some j) h n = absurd (n j (judge-allows (view t) sound i m j .1 h))
+
+    go : (j : Judgement) → judge (view t) i m ≡ j → allows (view t) i m ≡ target-of j
+    go (allowed j) h = judge-allows (view t) sound i m j .0 h
+    go no-label h = nowhere (allows (view t) i m) refl (λ j k. let q : no-label ≡ allowed j = sym h ∙ k in let z : _≡_ {A = ℕ} 0 1 = cc in omega arith)
+    go other-kinds h = nowhere (allows (view t) i m) refl (λ j k. let q : other-kinds ≡ allowed j = sym h ∙ k in let z : _≡_ {A = ℕ} 0 1 = cc in omega arith)
+    go (out-of-range f) h = nowhere (allows (view t) i m) refl (λ j k. let q : out-of-range f ≡ allowed j = sym h ∙ k in let z : _≡_ {A = ℕ} 0 1 = cc in omega arith)
+
 -- ---- one message in its place
 
-module _ (t : D.Table) (sound : soundOf t ≡ true) (agree : (i : ℕ) (m : Message) → allows (view t) i m ≡ target-of (judge (view t) i m))
+module _ (t : D.Table) (sound : soundOf t ≡ true)
     (past : List Event) (s : State) (at : Stands (view t) past s) (m : Sent) where
   abbrev here : Stepping → Event
   here x = record { sent = m; met = s; done = x }
@@ -256,7 +275,7 @@ module _ (t : D.Table) (sound : soundOf t ≡ true) (agree : (i : ℕ) (m : Mess
     module _ (j : ℕ) (h : judge (view t) (s .position) (read (m .bytes)) ≡ allowed j) where
       goes-there : allows (view t) (s .position) (read (m .bytes)) ≡ some j
       unfolding target-of
-      goes-there = agree (s .position) (read (m .bytes)) ∙ ap target-of h
+      goes-there = agree t sound (s .position) (read (m .bytes)) ∙ ap target-of h
 
       forwarded-handled : Handled (view t) past (s .position) (here (forwarding j (m .bytes) s (m .buffer)))
       unfolding forwarding
@@ -294,7 +313,7 @@ module _ (t : D.Table) (sound : soundOf t ≡ true) (agree : (i : ℕ) (m : Mess
 
     module _ (j : Judgement) (h : judge (view t) (s .position) (read (m .bytes)) ≡ j) (g : target-of j ≡ none) where
       goes-nowhere : allows (view t) (s .position) (read (m .bytes)) ≡ none
-      goes-nowhere = agree (s .position) (read (m .bytes)) ∙ ap target-of h ∙ g
+      goes-nowhere = agree t sound (s .position) (read (m .bytes)) ∙ ap target-of h ∙ g
 
       blamed-handled : Handled (view t) past (s .position) (here (blaming j s (m .side) (m .buffer)))
       unfolding blaming
@@ -343,7 +362,7 @@ module _ (t : D.Table) (sound : soundOf t ≡ true) (agree : (i : ℕ) (m : Mess
 
 -- ---- every message in its place
 
-module _ (t : D.Table) (sound : soundOf t ≡ true) (agree : (i : ℕ) (m : Message) → allows (view t) i m ≡ target-of (judge (view t) i m)) where
+module _ (t : D.Table) (sound : soundOf t ≡ true) where
   cons-eq : {A : Type 0} {a b : A} {r s : List A} → a ∷ r ≡ b ∷ s → (a ≡ b) × (r ≡ s)
   cons-eq e = (cc, cc)
 
@@ -357,9 +376,9 @@ module _ (t : D.Table) (sound : soundOf t ≡ true) (agree : (i : ℕ) (m : Mess
   in-place past s at [] (x ∷ r) e later h = nil-cons h
   in-place past s at (m ∷ sent) [] e later h =
       subst (λ (l : List Event). Right (view t) l e) (sym (append-nil past))
-      (subst (Right (view t) past) (cons-eq h .0) (right-here t sound agree past s at m))
+      (subst (Right (view t) past) (cons-eq h .0) (right-here t sound past s at m))
   in-place past s at (m ∷ sent) (x ∷ r) e later h =
-      let here = right-here t sound agree past s at m in
+      let here = right-here t sound past s at m in
       subst (λ (l : List Event). Right (view t) l e) (append-assoc past (x ∷ []) r)
       (subst (λ (x : Event). Right (view t) ((past ++ (x ∷ [])) ++ r) e) (cons-eq h .0)
       (in-place (past ++ (event t s m ∷ [])) (event t s m .done .state) (here .after) sent r e later (cons-eq h .1)))
@@ -375,3 +394,6 @@ module _ (t : D.Table) (sound : soundOf t ≡ true) (agree : (i : ℕ) (m : Mess
     where
       at-first : Stands (view t) [] fresh
       at-first = record { position = refl; standing = refl }
+
+pub demand-two : DemandTwo
+demand-two t sound sent = demand t sound sent

@@ -58,7 +58,9 @@ use Rattle.monitor.proofs.Stepped as R
 use Rattle.monitor.proofs.Stepped.Laws as R′
 use Rattle.monitor.proofs.step as step
 use Rattle.monitor.proofs.step.Symbol as step-def
+use Rattle.monitor.proofs.step.Symbol.{name as #monitor·step}
 use Rattle.monitor.proofs.step.Met as step-thm
+use Rattle.monitor.proofs.advance.Key.{name as #monitor·advance}
 use Rattle.monitor.proofs.advance as f
 use Rattle.monitor.proofs.advance.Statement as stated
 use Rattle.monitor.proofs.advance.Code as code
