@@ -18,6 +18,7 @@ use Rattle.table.proofs.Facts.{Facts, sound-facts, sort-of}
 use Rattle.message.specs.Message.{read, whole, legal-values, exact, refusal}
 use Rattle.message.specs.Judge.{Judgement, allowed, no-label, other-kinds, out-of-range, judge}
 use Rattle.monitor.specs.declared.Party.{Party}
+use Rattle.monitor.specs.declared.Party.the-variants.{Device, Host}
 use Rattle.monitor.specs.declared.State.{State}
 use Rattle.monitor.specs.declared.Reason.{Reason}
 use Rattle.monitor.specs.declared.Reason.the-variants.{NoLabel, OtherKinds, OutOfRange}
@@ -25,6 +26,19 @@ use Rattle.monitor.specs.declared.Verdict.the-variants.{Blamed}
 use Rattle.monitor.specs.declared.judge.Judged.the-variants.{Forbidden}
 use Rattle.monitor.specs.Step.{running, blame, speaker, is-party, first-no, of-state, of-message, asked, told, reason, outside, Stepping, refusing, blaming, forwarding, judging, stepping, stepped}
 use Rattle.monitor.specs.Leaves.{judgement}
+
+-- ---- options and parties
+
+pub some-eq : {A : Type 0} {a b : A} → some a ≡ some b → a ≡ b
+some-eq e = cc
+
+pub none-some : {A X : Type 0} {a : A} → none ≡ some a → X
+none-some e = let z : _≡_ {A = ℕ} 0 1 = cc in absurd (omega arith)
+
+pub turn-its : (side : Party) → is-party side (some side) ≡ true
+unfolding is-party
+turn-its Device = refl
+turn-its Host = refl
 
 -- ---- 9, 10, 11
 
@@ -98,7 +112,7 @@ module _ (sort : Sort) (side : Party) (message : List ℕ) (room : ℕ) where
   not-its-turn h = rw h
 
   module _ (turn : is-party side (speaker sort) ≡ true) where
-    formed-then : first-no (of-message sort side message room) ≡ cond (eqb (refusal message) 0) (cond (leb (length message) room) 0 16) (refusal message)
+    pub formed-then : first-no (of-message sort side message room) ≡ cond (eqb (refusal message) 0) (cond (leb (length message) room) 0 16) (refusal message)
     unfolding first-no of-message refusal
     formed-then = rw turn (by (whole message) (legal-values message) (exact message) (cond (leb (length message) room) 0 16))
       where

@@ -26,7 +26,7 @@ use Rattle.monitor.specs.declared.Standing.{Standing}
 use Rattle.monitor.specs.declared.State.{State}
 use Rattle.monitor.specs.Step.{fresh, running, blame, speaker, is-party, first-no, of-state, of-message, asked, Told, refused, blamed, forwarded, reason, outside, Stepping, refusing, blaming, forwarding, stepping}
 use Rattle.monitor.specs.Conversation.{Sent, Event, event, played, conversation, is-forwarded, forwarded-ones, blamed-else, blamed-first, leads, standing-by, Stands, nobody, Judgeable, refusal-of, Handled, Right, Demand, DemandTwo}
-use Rattle.monitor.proofs.Asking.{target-of, Way, refuses, forwards, blames, way}
+use Rattle.monitor.proofs.Asking.{some-eq, none-some, turn-its, target-of, Way, refuses, forwards, blames, way}
 
 -- ---- what verdicts and type say, of two lists in a row
 
@@ -68,12 +68,6 @@ blamed-append (e ∷ r) b = ap (blamed-else (e .done .verdict)) (blamed-append r
     go forwarded = refl
 
 -- ---- the state that messages lead to is one of the table's
-
-some-eq : {A : Type 0} {a b : A} → some a ≡ some b → a ≡ b
-some-eq e = cc
-
-none-some : {A X : Type 0} {a : A} → none ≡ some a → X
-none-some e = let z : _≡_ {A = ℕ} 0 1 = cc in absurd (omega arith)
 
 goes-target : (n : ℕ) (g : ℕ → T.Branch) (i : ℕ) (m : Message) (j : ℕ) → goes (upto n g) i m ≡ some j → (k : ℕ) × (k < n) × (g k .target ≡ j)
 unfolding goes upto
@@ -127,11 +121,6 @@ its-turn Device (some Device) e = refl
 its-turn Host (some Host) e = refl
 its-turn Device (some Host) e = never e refl
 its-turn Host (some Device) e = never e refl
-
-turn-its : (side : Party) → is-party side (some side) ≡ true
-unfolding is-party
-turn-its Device = refl
-turn-its Host = refl
 
 speaks-choice : (s : T.Sort) (side : Party) → speaker s ≡ some side → T.is-choice s ≡ true
 unfolding speaker T.is-choice
