@@ -24,8 +24,8 @@ use Rattle.monitor.specs.declared.Party.{Party}
 use Rattle.monitor.specs.declared.Party.the-variants.{Device, Host}
 use Rattle.monitor.specs.declared.Standing.{Standing}
 use Rattle.monitor.specs.declared.State.{State}
-use Rattle.monitor.specs.Step.{fresh, running, blame, speaker, is-party, first-no, of-state, of-message, asked, Told, refused, blamed, forwarded, reason, outside, Stepping, refusing, blaming, forwarding, stepping}
-use Rattle.monitor.specs.Conversation.{Sent, Event, event, played, conversation, is-forwarded, forwarded-ones, blamed-else, blamed-first, leads, standing-by, Stands, nobody, Judgeable, refusal-of, Handled, Right, Demand, DemandTwo}
+use Rattle.monitor.specs.Step.{fresh, running, blame, speaker, is-party, first-no, of-state, of-message, asked, Told, refused, blamed, forwarded, reason, outside, Stepping, refusing, blaming, forwarding, stepping, stepped}
+use Rattle.monitor.specs.Conversation.{Sent, Event, event, played, conversation, is-forwarded, forwarded-ones, blamed-else, blamed-first, leads, standing-by, Stands, nobody, Judgeable, refusal-of, Handled, Right, Demand, DemandTwo, Answer, Kept, one-more}
 use Rattle.monitor.proofs.Asking.{some-eq, none-some, turn-its, target-of, Way, refuses, forwards, blames, way}
 
 -- ---- what verdicts and type say, of two lists in a row
@@ -386,3 +386,19 @@ module _ (t : D.Table) (sound : soundOf t ≡ true) where
 
 pub demand-two : DemandTwo
 demand-two t sound sent = demand t sound sent
+
+-- ---- a program that keeps its promises answers as the conversation has it, by `step` and by `advance` alike
+
+played-by : (t : D.Table) (s : State) (answers : List Answer) → Kept t s answers
+    → map (λ (a : Answer). stepped (a .given) (a .output)) answers ≡ map (λ (e : Event). e .done) (played t s (map (λ (a : Answer). a .sent) answers))
+unfolding played event stepped
+played-by t s [] k = refl
+played-by t s (a ∷ r) (one-more h k) =
+    ap₂ _∷_ h
+    (subst (λ (x : State). map (λ (a : Answer). stepped (a .given) (a .output)) r ≡ map (λ (e : Event). e .done) (played t x (map (λ (a : Answer). a .sent) r)))
+    (ap (λ (x : Stepping). x .state) h) (played-by t (a .given .state) r k))
+
+pub answered : (t : D.Table) (answers : List Answer) → Kept t fresh answers
+    → map (λ (a : Answer). stepped (a .given) (a .output)) answers ≡ map (λ (e : Event). e .done) (conversation t (map (λ (a : Answer). a .sent) answers))
+unfolding conversation
+answered t answers k = played-by t fresh answers k
