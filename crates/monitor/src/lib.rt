@@ -2,8 +2,12 @@
 // A refusal carries its question's number and leaves state and output as they were. A blame is for ever. Every call takes any
 // table and asks question 9 of it.
 ghost use mathlib.Core.Path.{_≡_};
+ghost use Prim.Native.Nat.{_≤_};
+ghost use lib.ListN.{length};
 ghost use Rattle.table.specs.View.{columns};
-ghost use Rattle.monitor.specs.Step.{fresh, blame, stepping, stepped};
+ghost use Rattle.monitor.specs.declared.Verdict.the-variants.{Refused};
+ghost use Rattle.monitor.specs.Step.{fresh, blame, judging, stepping, stepped};
+ghost use Rattle.monitor.specs.Leaves.{judgement};
 ghost use Rattle.monitor.specs.Due.{seen, awaited, turn, first-length, due};
 use judge::Judged;
 use table::Table;
@@ -118,18 +122,12 @@ pub fn columns_step<'a>(
         s,
     );
     if q != 0 {
-        return Stepped {
-            state: s,
-            verdict: Verdict::Refused(q),
-        };
+        return refused(s, q);
     }
     let position = s.position;
     let p = ask::of_message(sort[position as usize], side, message, out.len());
     if p != 0 {
-        return Stepped {
-            state: s,
-            verdict: Verdict::Refused(p),
-        };
+        return refused(s, p);
     }
     let judged = judge::judge(
         branches,
@@ -143,6 +141,24 @@ pub fn columns_step<'a>(
         position,
         message,
     );
+    settle(judged, s, side, message, out)
+}
+
+// A no changes nothing.
+fn refused(s: State, question: u8) -> Stepped
+    ensures { λ r. ⌜ r ≡ record { state = s; verdict = Refused question } ⌝ }
+{
+    Stepped {
+        state: s,
+        verdict: Verdict::Refused(question),
+    }
+}
+
+// What comes of a judgement.
+fn settle(judged: Judged, s: State, side: Party, message: &[u8], out: &mut [u8]) -> Stepped
+    requires { ⌜ length (now message) ≤ length (now out) ⌝ }
+    ensures { λ r. ⌜ stepped r (now (out .exit)) ≡ judging (judgement judged) s side (now (message .entry)) (now (out .entry)) ⌝ }
+{
     match judged {
         Judged::Allowed(next) => {
             bytes::copy(message, out);
@@ -158,7 +174,10 @@ pub fn columns_step<'a>(
         }
         Judged::Forbidden(why) => {
             let standing = blamed(side);
-            let state = State { position, standing };
+            let state = State {
+                position: s.position,
+                standing,
+            };
             let verdict = Verdict::Blamed(side, why);
             Stepped { state, verdict }
         }
