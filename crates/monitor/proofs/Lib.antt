@@ -1,0 +1,4 @@
+pub mod Asking
+pub mod Demand
+pub mod Leaves
+pub mod ByPlaces
