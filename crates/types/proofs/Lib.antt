@@ -1,0 +1,4 @@
+pub mod Close
+pub mod Stands
+pub mod Numbering
+pub mod Agree
