@@ -2,3 +2,5 @@ pub mod Close
 pub mod Stands
 pub mod Numbering
 pub mod Agree
+pub mod Bound
+pub mod Rules
