@@ -4,3 +4,5 @@ pub mod Numbering
 pub mod Agree
 pub mod Bound
 pub mod Rules
+pub mod Reasons
+pub mod Texts

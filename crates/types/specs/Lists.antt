@@ -1,6 +1,7 @@
 -- Lists of messages, for types and for tables alike: A is the types or a table's states, f where a message leads if it is allowed.
 -- Assumes nothing.
 use Prim.Native.Nat.{ℕ}
+use mathlib.Core.Path.{_≡_}
 use mathlib.Core.Bool.{Bool, true, false, not, cond}
 use mathlib.Core.List.{List, [], _∷_}
 use mathlib.Core.Option.{Option, none, some}
@@ -9,7 +10,7 @@ use Rattle.message.specs.Judge.{allows}
 use Rattle.text.specs.Grammar.{Ty}
 use Rattle.monitor.specs.declared.Party.{Party}
 use Rattle.monitor.specs.Step.{speaker, is-party}
-use Rattle.types.specs.Types.{Said, turn, next, at-end}
+use Rattle.types.specs.Types.{Said, Steps, turn, next, at-end}
 
 abbrev pub and-then : {A B : Type 0} → Option A → (A → Option B) → Option B
 and-then none f = none
@@ -57,6 +58,12 @@ type-completes t vs = completed next at-end t vs
 
 unfoldable pub type-blames : Ty → List Said → Option Party
 type-blames t vs = faulted turn next t vs
+
+-- the same, by the rules
+pub record Completes (t : Ty) (vs : List Said) : Type 0 where
+  pub left : Ty
+  pub led : Steps t vs left
+  pub over : at-end left ≡ true
 
 -- ---- for a table, from state 0
 

@@ -139,6 +139,32 @@ next t v = onward (opened t) v
 unfoldable pub at-end : Ty → Bool
 at-end t = is-stop (opened t)
 
+-- ---- why a type forbids a message (document 01, "One step of the monitor")
+
+-- the fields of the branch that has the label
+abbrev pub fields-of : Br → List ℕ → Option (List Field)
+fields-of (last l fs t) label = cond (same (labelOf l) label) (some fs) none
+fields-of (also l fs t bs) label = cond (same (labelOf l) label) (some fs) (fields-of bs label)
+
+abbrev pub by-range : Option ℕ → ℕ × Option ℕ
+by-range none = (0, none)
+by-range (some f) = (3, some f)
+
+-- 1 no such label; 2 field count or kinds differ; 3 a number outside its range, with the first such field; 0 if none holds
+abbrev pub by-fields : Option (List Field) → List Value → ℕ × Option ℕ
+by-fields none vs = (1, none)
+by-fields (some fs) vs = cond (matched same-kind (map fieldOf fs) vs) (by-range (first-outside 0 (map fieldOf fs) vs)) (2, none)
+
+-- of a type whose `rec`s are unfolded, then of any
+abbrev pub reason-at : Ty → Message → ℕ × Option ℕ
+reason-at stop m = (1, none)
+reason-at (var x) m = (1, none)
+reason-at (loop x t) m = (1, none)
+reason-at (choice w bs) m = by-fields (fields-of bs (m .label)) (m .values)
+
+unfoldable pub why : Ty → Message → ℕ × Option ℕ
+why t m = reason-at (opened t) m
+
 -- ---- the dual: sending and receiving exchanged
 
 abbrev pub other-way : Way → Way
