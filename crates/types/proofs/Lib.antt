@@ -6,3 +6,4 @@ pub mod Bound
 pub mod Rules
 pub mod Reasons
 pub mod Texts
+pub mod Headline
