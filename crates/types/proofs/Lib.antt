@@ -7,3 +7,4 @@ pub mod Rules
 pub mod Reasons
 pub mod Texts
 pub mod Headline
+pub mod Dual

@@ -6,17 +6,20 @@ use mathlib.Core.Logic.{_↔_}
 use mathlib.Core.Bool.{true, false≢true}
 use mathlib.Core.List.{List}
 use mathlib.Core.Option.{Option, none, some}
-use Rattle.table.specs.View.{view}
+use Rattle.table.specs.View.{view, dualOf}
+use Rattle.table.specs.Table.{dual as dual-table}
+use Rattle.table.proofs.Twice.{dual-view}
 use Rattle.text.specs.Grammar.{Ty, Writes, Legal, tableOf}
 use Rattle.text.specs.Reading.{reads}
-use Rattle.text.proofs.Exactly.{read-only, read-table}
+use Rattle.text.proofs.Exactly.{read-only, read-table, read-sound}
 use Rattle.text.proofs.Unique.{syntax-unique}
 use Rattle.text.proofs.Names.{labels-legal}
-use Rattle.types.specs.Types.{Said, Closed, next, at-end}
+use Rattle.types.specs.Types.{Said, Closed, next, at-end, dual}
 use Rattle.types.specs.Lists.{holds-of, after, completed, type-allows, type-completes, type-blames, Completes, table-allows, table-completes, table-blames}
 use Rattle.types.proofs.Bound.{bound-closed}
 use Rattle.types.proofs.Rules.{Proper, steps-exactly}
 use Rattle.types.proofs.Agree.{Stands-for, starts, allows-same, completes-same, blames-same}
+use Rattle.types.proofs.Dual.{dual-table-of}
 
 module _ (s : List ℕ) (h : reads s .question ≡ 0) (t : Ty) (w : Writes s t) where
   legal : Legal t
@@ -44,6 +47,10 @@ module _ (s : List ℕ) (h : reads s .question ≡ 0) (t : Ty) (w : Writes s t) 
 
   pub text-blames : (vs : List Said) → type-blames t vs ≡ table-blames (view (reads s .table)) vs
   text-blames vs = blames-same t closed (legal .guarded) vs ∙ ap (λ T. table-blames T vs) (sym table)
+
+  -- the dual of the table is the table of the dual type
+  pub text-dual : view (dualOf (reads s .table) .table) ≡ tableOf (dual t)
+  text-dual = dual-view (reads s .table) (read-sound s h) ∙ ap dual-table table ∙ sym (dual-table-of t)
 
   -- by the rules
   pub completes-exactly : (vs : List Said) → Completes t vs ↔ (table-completes (view (reads s .table)) vs ≡ true)

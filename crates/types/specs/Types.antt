@@ -181,3 +181,11 @@ abbrev mutual
   pub dualBr : Br → Br
   dualBr (last l fs t) = last l fs (dual t)
   dualBr (also l fs t bs) = also l fs (dual t) (dualBr bs)
+
+-- the same message from the other side
+abbrev pub other : Party → Party
+other Device = Host
+other Host = Device
+
+unfoldable pub flip : Said → Said
+flip v = record { side = other (v .side); message = v .message }
