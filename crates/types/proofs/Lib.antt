@@ -8,3 +8,4 @@ pub mod Reasons
 pub mod Texts
 pub mod Headline
 pub mod Dual
+pub mod Monitored

@@ -1,3 +1,5 @@
 pub mod Types
 pub mod Lists
 pub mod Headline
+pub mod Monitor
+pub mod Composite
