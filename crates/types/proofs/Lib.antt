@@ -9,3 +9,5 @@ pub mod Texts
 pub mod Headline
 pub mod Dual
 pub mod Monitored
+pub mod Finished
+pub mod Composed

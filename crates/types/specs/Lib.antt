@@ -3,3 +3,4 @@ pub mod Lists
 pub mod Headline
 pub mod Monitor
 pub mod Composite
+pub mod Verdicts
