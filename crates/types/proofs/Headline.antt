@@ -32,7 +32,7 @@ use Rattle.types.proofs.Texts.{proper, begins}
 
 -- ---- lists
 
-after-append : {A : Type 0} (f : A → Said → Option A) (a : A) (vs ws : List Said) → after f a (vs ++ ws) ≡ and-then (after f a vs) (λ b. after f b ws)
+pub after-append : {A : Type 0} (f : A → Said → Option A) (a : A) (vs ws : List Said) → after f a (vs ++ ws) ≡ and-then (after f a vs) (λ b. after f b ws)
 after-append f a [] ws = refl
 after-append {A} f a (v ∷ vs) ws = go (f a v) (λ b. after-append f b vs ws)
   where
@@ -41,7 +41,7 @@ after-append {A} f a (v ∷ vs) ws = go (f a v) (λ b. after-append f b vs ws)
     go none i = refl
     go (some b) i = i b
 
-said-append : (a b : List C.Event) → forwarded-said (a ++ b) ≡ forwarded-said a ++ forwarded-said b
+pub said-append : (a b : List C.Event) → forwarded-said (a ++ b) ≡ forwarded-said a ++ forwarded-said b
 unfolding forwarded-said
 said-append [] b = refl
 said-append (e ∷ r) b = go (C.is-forwarded (e .done .verdict)) (said-append r b)

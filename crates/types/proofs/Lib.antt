@@ -11,3 +11,4 @@ pub mod Dual
 pub mod Monitored
 pub mod Finished
 pub mod Composed
+pub mod Published
