@@ -2,8 +2,11 @@
 // Reading copies nothing: label, kinds and numbers are read where they stand.
 ghost use mathlib.Core.Path.{_≡_};
 ghost use Rattle.message.specs.Message.{number-at, label-word, has-label, whole, frontOf, refusal};
+ghost use Rattle.message.specs.Make.{highOf, told, making};
+use table::Table;
 
 mod fields;
+mod write;
 
 // What the front of some bytes tells: the first of 13 and 14 that gets a no, and length 0; or 0, and the length that the message announces.
 pub struct Head {
@@ -111,4 +114,40 @@ pub enum High {
 pub enum Made {
     Refused(u8),
     Length(u16),
+}
+
+// The message of a branch, with every number low or one named field high, opens `out`. 9, 18 and 16 are asked, and a
+// refusal changes nothing.
+pub fn make(t: Table, branch: u16, high: High, out: &mut [u8]) -> Made
+    ensures { λ r. ⌜ told r ≡ making t branch (highOf high) (now (out .entry)) .numbers ⌝ }
+    ensures { λ r. ⌜ now (out .exit) ≡ making t branch (highOf high) (now (out .entry)) .buffer ⌝ }
+{
+    if !table::sound(t) {
+        return Made::Refused(9);
+    }
+    let k = branch as usize;
+    if t.branches as usize <= k {
+        return Made::Refused(18);
+    }
+    let count = t.fields[k];
+    if !write::has_field(high, count) {
+        return Made::Refused(18);
+    }
+    let text = write::text_length(&t.kind, &t.low, &t.high, 4 * k, count, high);
+    let size = 9 + 5 * (count as usize) + text;
+    if out.len() < size {
+        return Made::Refused(16);
+    }
+    write::message(
+        out,
+        t.label[k],
+        &t.kind,
+        &t.low,
+        &t.high,
+        4 * k,
+        count,
+        high,
+        text,
+    );
+    Made::Length(size as u16)
 }

@@ -13,11 +13,12 @@ use borrow.Author.Tests.{ne-eqb, lt-ltb, le-ltb, ltb-true, le-leb, lt-leb, leb-t
 use Rattle.table.specs.Table.{Sort, is-choice, sort}
 use Rattle.table.specs.View.{view, sortOf, soundOf, soundAt}
 use Rattle.table.specs.declared.Table.{Table}
-use Rattle.table.proofs.Lists.{both, join, left-fails, right-fails}
+use Rattle.table.proofs.Lists.{never, both, join, left-fails, right-fails}
 use Rattle.table.proofs.Facts.{Facts, sound-facts, sort-of}
 use Rattle.message.specs.Message.{read, whole, legal-values, exact, refusal}
 use Rattle.message.specs.Judge.{Judgement, allowed, no-label, other-kinds, out-of-range, judge}
 use Rattle.monitor.specs.declared.Party.{Party}
+use Rattle.monitor.specs.declared.Party.the-variants.{Device, Host}
 use Rattle.monitor.specs.declared.State.{State}
 use Rattle.monitor.specs.declared.Reason.{Reason}
 use Rattle.monitor.specs.declared.Reason.the-variants.{NoLabel, OtherKinds, OutOfRange}
@@ -25,6 +26,19 @@ use Rattle.monitor.specs.declared.Verdict.the-variants.{Blamed}
 use Rattle.monitor.specs.declared.judge.Judged.the-variants.{Forbidden}
 use Rattle.monitor.specs.Step.{running, blame, speaker, is-party, first-no, of-state, of-message, asked, told, reason, outside, Stepping, refusing, blaming, forwarding, judging, stepping, stepped}
 use Rattle.monitor.specs.Leaves.{judgement}
+
+-- ---- options and parties
+
+pub some-eq : {A : Type 0} {a b : A} → some a ≡ some b → a ≡ b
+some-eq e = cc
+
+pub none-some : {A X : Type 0} {a : A} → none ≡ some a → X
+none-some e = let z : _≡_ {A = ℕ} 0 1 = cc in absurd (omega arith)
+
+pub turn-its : (side : Party) → is-party side (some side) ≡ true
+unfolding is-party
+turn-its Device = refl
+turn-its Host = refl
 
 -- ---- 9, 10, 11
 
@@ -67,17 +81,25 @@ module _ (t : Table) (s : State) where
   pub record Opened : Type 0 where
     pub facts : Facts t
     pub below : s .position < t .states
+    pub choice : getD (t .sort) (s .position) 0 ≡ 0 → ⊥
 
   pub opened : first-no (of-state t s) ≡ 0 → Opened
-  unfolding first-no of-state soundAt
+  unfolding first-no of-state soundAt sortOf is-choice
   opened h =
-      let e = sound-here (soundOf t && ltb (s .position) (t .states)) (running (s .standing)) (is-choice (sort (view t) (s .position))) h in
-      let b = both (soundOf t) (ltb (s .position) (t .states)) e in
-      record { facts = sound-facts t (b .0); below = ltb-true (s .position) (t .states) (b .1) }
+      let e = all-three (soundOf t && ltb (s .position) (t .states)) (running (s .standing)) (is-choice (sort (view t) (s .position))) h in
+      let b = both (soundOf t) (ltb (s .position) (t .states)) (e .0) in
+      let l = ltb-true (s .position) (t .states) (b .1) in
+      record { facts = sound-facts t (b .0); below = l; choice = λ z. no-choice (getD (t .sort) (s .position) 0) z (ap is-choice (sym (sort-of t (s .position) l)) ∙ e .1) }
     where
-      sound-here : (a b c : Bool) → three a b c 0 ≡ 0 → a ≡ true
-      sound-here true b c h = refl
-      sound-here false b c h = absurd (omega (arith, h))
+      all-three : (a b c : Bool) → three a b c 0 ≡ 0 → (a ≡ true) × (c ≡ true)
+      all-three true true true h = (refl, refl)
+      all-three true true false h = absurd (omega (arith, h))
+      all-three true false c h = absurd (omega (arith, h))
+      all-three false b c h = absurd (omega (arith, h))
+
+      no-choice : (n : ℕ) → n ≡ 0 → is-choice (sortOf n) ≡ true → ⊥
+      no-choice zero z e = never e refl
+      no-choice (suc n) z e = absurd (omega arith)
 
 -- ---- 12 to 16
 
@@ -90,7 +112,7 @@ module _ (sort : Sort) (side : Party) (message : List ℕ) (room : ℕ) where
   not-its-turn h = rw h
 
   module _ (turn : is-party side (speaker sort) ≡ true) where
-    formed-then : first-no (of-message sort side message room) ≡ cond (eqb (refusal message) 0) (cond (leb (length message) room) 0 16) (refusal message)
+    pub formed-then : first-no (of-message sort side message room) ≡ cond (eqb (refusal message) 0) (cond (leb (length message) room) 0 16) (refusal message)
     unfolding first-no of-message refusal
     formed-then = rw turn (by (whole message) (legal-values message) (exact message) (cond (leb (length message) room) 0 16))
       where

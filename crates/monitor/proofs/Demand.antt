@@ -13,20 +13,20 @@ use lib.Dec.{leb, ltb, eqb}
 use borrow.Author.Tests.{leb-true, le-leb, lt-ltb}
 use Rattle.table.specs.Table as T
 use Rattle.table.specs.Lists.{upto}
-use Rattle.table.specs.View.{view, branchAt, soundOf, soundAt}
+use Rattle.table.specs.View.{view, branchAt, known, soundOf, soundAt}
 use Rattle.table.specs.declared.Table as D
 use Rattle.table.proofs.Lists.{never, both, join}
 use Rattle.table.proofs.Facts.{Facts, sound-facts}
 use Rattle.message.specs.Message.{Message, read, whole, legal-values, exact, well-formed}
-use Rattle.message.specs.Judge.{Judgement, allowed, carries, goes, allows, judge}
-use Rattle.message.specs.Make.{opening}
+use Rattle.message.specs.Judge.{Judgement, allowed, no-label, other-kinds, out-of-range, carries, goes, allows, judge}
+use Rattle.message.proofs.Judging.{judge-allows}
 use Rattle.monitor.specs.declared.Party.{Party}
 use Rattle.monitor.specs.declared.Party.the-variants.{Device, Host}
 use Rattle.monitor.specs.declared.Standing.{Standing}
 use Rattle.monitor.specs.declared.State.{State}
-use Rattle.monitor.specs.Step.{fresh, running, blame, speaker, is-party, first-no, of-state, of-message, asked, Told, refused, blamed, forwarded, reason, outside, Stepping, refusing, blaming, forwarding, stepping}
-use Rattle.monitor.specs.Conversation.{Sent, Event, event, played, conversation, is-forwarded, forwarded-ones, blamed-else, blamed-first, leads, standing-by, Stands, nobody, Judgeable, refusal-of, Handled, Right, Demand, DemandTwo}
-use Rattle.monitor.proofs.Asking.{target-of, Way, refuses, forwards, blames, way}
+use Rattle.monitor.specs.Step.{fresh, running, blame, speaker, is-party, first-no, of-state, of-message, asked, Told, refused, blamed, forwarded, reason, outside, Stepping, refusing, blaming, forwarding, stepping, stepped}
+use Rattle.monitor.specs.Conversation.{Sent, Event, event, played, conversation, is-forwarded, forwarded-ones, blamed-else, blamed-first, leads, standing-by, Stands, nobody, Judgeable, refusal-of, Handled, Right, Demand, DemandTwo, Answer, Kept, one-more}
+use Rattle.monitor.proofs.Asking.{some-eq, none-some, turn-its, target-of, Way, refuses, forwards, blames, way}
 
 -- ---- what verdicts and type say, of two lists in a row
 
@@ -68,12 +68,6 @@ blamed-append (e ∷ r) b = ap (blamed-else (e .done .verdict)) (blamed-append r
     go forwarded = refl
 
 -- ---- the state that messages lead to is one of the table's
-
-some-eq : {A : Type 0} {a b : A} → some a ≡ some b → a ≡ b
-some-eq e = cc
-
-none-some : {A X : Type 0} {a : A} → none ≡ some a → X
-none-some e = let z : _≡_ {A = ℕ} 0 1 = cc in absurd (omega arith)
 
 goes-target : (n : ℕ) (g : ℕ → T.Branch) (i : ℕ) (m : Message) (j : ℕ) → goes (upto n g) i m ≡ some j → (k : ℕ) × (k < n) × (g k .target ≡ j)
 unfolding goes upto
@@ -127,11 +121,6 @@ its-turn Device (some Device) e = refl
 its-turn Host (some Host) e = refl
 its-turn Device (some Host) e = never e refl
 its-turn Host (some Device) e = never e refl
-
-turn-its : (side : Party) → is-party side (some side) ≡ true
-unfolding is-party
-turn-its Device = refl
-turn-its Host = refl
 
 speaks-choice : (s : T.Sort) (side : Party) → speaker s ≡ some side → T.is-choice s ≡ true
 unfolding speaker T.is-choice
@@ -192,9 +181,28 @@ refused-eq e = cc
 blamed-eq : {p q : Party} {r x : ℕ} {f g : Option ℕ} → blamed p r f ≡ blamed q x g → (p ≡ q) × (r ≡ x) × (f ≡ g)
 blamed-eq e = (cc, cc, cc)
 
+-- ---- judging and allowing
+
+agree : (t : D.Table) → soundOf t ≡ true → (i : ℕ) (m : Message) → allows (view t) i m ≡ target-of (judge (view t) i m)
+unfolding soundOf target-of
+agree t e i m = go (judge (view t) i m) refl
+  where
+    sound : T.sound (view t) ≡ true
+    sound = both (known t) (T.sound (view t)) e .1
+
+    nowhere : (o : Option ℕ) → allows (view t) i m ≡ o → ((j : ℕ) → judge (view t) i m ≡ allowed j → ⊥) → o ≡ none
+    nowhere none h n = refl
+    nowhere (some j) h n = absurd (n j (judge-allows (view t) sound i m j .1 h))
+
+    go : (j : Judgement) → judge (view t) i m ≡ j → allows (view t) i m ≡ target-of j
+    go (allowed j) h = judge-allows (view t) sound i m j .0 h
+    go no-label h = nowhere (allows (view t) i m) refl (λ j k. let q : no-label ≡ allowed j = sym h ∙ k in let z : _≡_ {A = ℕ} 0 1 = cc in omega arith)
+    go other-kinds h = nowhere (allows (view t) i m) refl (λ j k. let q : other-kinds ≡ allowed j = sym h ∙ k in let z : _≡_ {A = ℕ} 0 1 = cc in omega arith)
+    go (out-of-range f) h = nowhere (allows (view t) i m) refl (λ j k. let q : out-of-range f ≡ allowed j = sym h ∙ k in let z : _≡_ {A = ℕ} 0 1 = cc in omega arith)
+
 -- ---- one message in its place
 
-module _ (t : D.Table) (sound : soundOf t ≡ true) (agree : (i : ℕ) (m : Message) → allows (view t) i m ≡ target-of (judge (view t) i m))
+module _ (t : D.Table) (sound : soundOf t ≡ true)
     (past : List Event) (s : State) (at : Stands (view t) past s) (m : Sent) where
   abbrev here : Stepping → Event
   here x = record { sent = m; met = s; done = x }
@@ -256,7 +264,7 @@ module _ (t : D.Table) (sound : soundOf t ≡ true) (agree : (i : ℕ) (m : Mess
     module _ (j : ℕ) (h : judge (view t) (s .position) (read (m .bytes)) ≡ allowed j) where
       goes-there : allows (view t) (s .position) (read (m .bytes)) ≡ some j
       unfolding target-of
-      goes-there = agree (s .position) (read (m .bytes)) ∙ ap target-of h
+      goes-there = agree t sound (s .position) (read (m .bytes)) ∙ ap target-of h
 
       forwarded-handled : Handled (view t) past (s .position) (here (forwarding j (m .bytes) s (m .buffer)))
       unfolding forwarding
@@ -294,7 +302,7 @@ module _ (t : D.Table) (sound : soundOf t ≡ true) (agree : (i : ℕ) (m : Mess
 
     module _ (j : Judgement) (h : judge (view t) (s .position) (read (m .bytes)) ≡ j) (g : target-of j ≡ none) where
       goes-nowhere : allows (view t) (s .position) (read (m .bytes)) ≡ none
-      goes-nowhere = agree (s .position) (read (m .bytes)) ∙ ap target-of h ∙ g
+      goes-nowhere = agree t sound (s .position) (read (m .bytes)) ∙ ap target-of h ∙ g
 
       blamed-handled : Handled (view t) past (s .position) (here (blaming j s (m .side) (m .buffer)))
       unfolding blaming
@@ -343,7 +351,7 @@ module _ (t : D.Table) (sound : soundOf t ≡ true) (agree : (i : ℕ) (m : Mess
 
 -- ---- every message in its place
 
-module _ (t : D.Table) (sound : soundOf t ≡ true) (agree : (i : ℕ) (m : Message) → allows (view t) i m ≡ target-of (judge (view t) i m)) where
+module _ (t : D.Table) (sound : soundOf t ≡ true) where
   cons-eq : {A : Type 0} {a b : A} {r s : List A} → a ∷ r ≡ b ∷ s → (a ≡ b) × (r ≡ s)
   cons-eq e = (cc, cc)
 
@@ -357,9 +365,9 @@ module _ (t : D.Table) (sound : soundOf t ≡ true) (agree : (i : ℕ) (m : Mess
   in-place past s at [] (x ∷ r) e later h = nil-cons h
   in-place past s at (m ∷ sent) [] e later h =
       subst (λ (l : List Event). Right (view t) l e) (sym (append-nil past))
-      (subst (Right (view t) past) (cons-eq h .0) (right-here t sound agree past s at m))
+      (subst (Right (view t) past) (cons-eq h .0) (right-here t sound past s at m))
   in-place past s at (m ∷ sent) (x ∷ r) e later h =
-      let here = right-here t sound agree past s at m in
+      let here = right-here t sound past s at m in
       subst (λ (l : List Event). Right (view t) l e) (append-assoc past (x ∷ []) r)
       (subst (λ (x : Event). Right (view t) ((past ++ (x ∷ [])) ++ r) e) (cons-eq h .0)
       (in-place (past ++ (event t s m ∷ [])) (event t s m .done .state) (here .after) sent r e later (cons-eq h .1)))
@@ -375,3 +383,22 @@ module _ (t : D.Table) (sound : soundOf t ≡ true) (agree : (i : ℕ) (m : Mess
     where
       at-first : Stands (view t) [] fresh
       at-first = record { position = refl; standing = refl }
+
+pub demand-two : DemandTwo
+demand-two t sound sent = demand t sound sent
+
+-- ---- a program that keeps its promises answers as the conversation has it, by `step` and by `advance` alike
+
+played-by : (t : D.Table) (s : State) (answers : List Answer) → Kept t s answers
+    → map (λ (a : Answer). stepped (a .given) (a .output)) answers ≡ map (λ (e : Event). e .done) (played t s (map (λ (a : Answer). a .sent) answers))
+unfolding played event stepped
+played-by t s [] k = refl
+played-by t s (a ∷ r) (one-more h k) =
+    ap₂ _∷_ h
+    (subst (λ (x : State). map (λ (a : Answer). stepped (a .given) (a .output)) r ≡ map (λ (e : Event). e .done) (played t x (map (λ (a : Answer). a .sent) r)))
+    (ap (λ (x : Stepping). x .state) h) (played-by t (a .given .state) r k))
+
+pub answered : (t : D.Table) (answers : List Answer) → Kept t fresh answers
+    → map (λ (a : Answer). stepped (a .given) (a .output)) answers ≡ map (λ (e : Event). e .done) (conversation t (map (λ (a : Answer). a .sent) answers))
+unfolding conversation
+answered t answers k = played-by t fresh answers k

@@ -18,7 +18,8 @@ use Rattle.monitor.specs.declared.Party.{Party}
 use Rattle.monitor.specs.declared.Standing.{Standing}
 use Rattle.monitor.specs.declared.Standing.the-variants.{Running}
 use Rattle.monitor.specs.declared.State.{State}
-use Rattle.monitor.specs.Step.{fresh, blame, speaker, is-party, first-no, Told, refused, blamed, forwarded, reason, outside, Stepping, refusing, stepping}
+use Rattle.monitor.specs.declared.Stepped.{Stepped}
+use Rattle.monitor.specs.Step.{fresh, blame, speaker, is-party, first-no, Told, refused, blamed, forwarded, reason, outside, Stepping, refusing, stepping, stepped}
 
 -- ---- a conversation
 
@@ -143,3 +144,18 @@ pub record Demand (t : D.Table) (sent : List Sent) : Type 0 where
 
 abbrev pub DemandTwo : Type 0
 DemandTwo = (t : D.Table) → soundOf t ≡ true → (sent : List Sent) → Demand t sent
+
+-- ---- what a program answers
+
+-- a message, the answer to it, and the output that is left
+pub record Answer : Type 0 where
+  pub sent : Sent
+  pub given : Stepped
+  pub output : List ℕ
+
+-- each answer keeps the promise of `step`, at the state that the answer before gave; or of `advance`, over one lent state
+pub data Kept (t : D.Table) : State → List Answer → Type 0 where
+  no-more : {s : State} → Kept t s []
+  one-more : {s : State} {a : Answer} {r : List Answer}
+      → stepped (a .given) (a .output) ≡ stepping t s (a .sent .side) (a .sent .bytes) (a .sent .buffer)
+      → Kept t (a .given .state) r → Kept t s (a ∷ r)

@@ -14,6 +14,8 @@ use Rattle.message.specs.Message.{front, announced}
 use Rattle.monitor.specs.declared.Party.{Party}
 use Rattle.monitor.specs.declared.Party.the-variants.{Device, Host}
 use Rattle.monitor.specs.declared.State.{State}
+use Rattle.monitor.specs.declared.Turn.{Turn}
+use Rattle.monitor.specs.declared.Turn.the-variants as Turns
 use Rattle.monitor.specs.Step.{first-no, of-state, speaker}
 
 -- what can be said of a slice: where it begins, which is a block of memory and an offset in it, and its bytes
@@ -30,6 +32,12 @@ cut s n = (ptr s, take n (now s))
 -- whose turn it is; nobody's when 9, 10 or 11 would refuse
 unfoldable pub awaited : Table → State → Option Party
 awaited t s = cond (eqb (first-no (of-state t s)) 0) (speaker (sort (view t) (s .position))) none
+
+-- the program's answer, by what it says
+unfoldable pub turn : Turn → Option Party
+turn Turns.Nobody = none
+turn Turns.Device = some Device
+turn Turns.Host = some Host
 
 -- how long the first message is; 0 when 13 or 14 would refuse or it is not all there
 unfoldable pub first-length : List ℕ → ℕ

@@ -178,7 +178,7 @@ module _ (t : D.Table) where
   unfolding view
   sorts-of = upto-length (t .states) (λ i. sortOf (getD (t .sort) i 0))
 
-  branches-of : length (view t .branches) ≡ t .branches
+  pub branches-of : length (view t .branches) ≡ t .branches
   unfolding view
   branches-of = upto-length (t .branches) (branchAt t)
 
