@@ -19,7 +19,7 @@ use Rattle.text.proofs.Exactly.{read-only, read-sound}
 use Rattle.monitor.specs.declared.Party.{Party}
 use Rattle.monitor.specs.Step.{speaker, is-party, first-no, Told, refused, blamed, forwarded, reason, outside}
 use Rattle.monitor.specs.Conversation as C
-use Rattle.monitor.proofs.Demand.{forwarded-append, leads-append}
+use Rattle.monitor.proofs.Demand.{forwarded-append, leads-append, demand-two}
 use Rattle.types.specs.Types.{Said, Step, Steps, turn, next, at-end, why}
 use Rattle.types.specs.Lists.{and-then, after, turn-at, next-state, ended}
 use Rattle.types.specs.Headline.{said-by, forwarded-said, Allows, Judgeable, refusal-of, Handled, Right, Demand, Headline}
@@ -218,9 +218,9 @@ module _ (T : Table) (t : Ty) where
 
 -- ---- the theorem
 
-pub type-demand : C.DemandTwo → (s : List ℕ) → reads s .question ≡ 0 → (t : Ty) → Writes s t → (sent : List C.Sent) → Demand s t sent
+pub type-demand : (s : List ℕ) → reads s .question ≡ 0 → (t : Ty) → Writes s t → (sent : List C.Sent) → Demand s t sent
 unfolding forwarded-said C.forwarded-ones C.leads
-type-demand demand-two s h t w sent = record { all-met = d .all-met; each = λ earlier e later f. at earlier e later f }
+type-demand s h t w sent = record { all-met = d .all-met; each = λ earlier e later f. at earlier e later f }
   where
     T : Table
     T = view (reads s .table)
@@ -238,5 +238,5 @@ type-demand demand-two s h t w sent = record { all-met = d .all-met; each = λ e
         (λ a x b g. d .each a x (b ++ (e ∷ later)) (f ∙ ap (λ (l : List C.Event). l ++ (e ∷ later)) g ∙ append-assoc a (x ∷ b) (e ∷ later))))
         (d .each earlier e later f)
 
-pub headline : C.DemandTwo → Headline
-headline demand-two s h = let r = read-only s h in (r .0, r .1, λ sent. type-demand demand-two s h (r .0) (r .1) sent)
+pub headline : Headline
+headline s h = let r = read-only s h in (r .0, r .1, λ sent. type-demand s h (r .0) (r .1) sent)

@@ -19,7 +19,7 @@ use Rattle.text.specs.Reading.{reads}
 use Rattle.monitor.specs.declared.Party.{Party}
 use Rattle.monitor.specs.declared.Party.the-variants.{Device, Host}
 use Rattle.monitor.specs.Step.{is-party, Told, refused, blamed, forwarded, refusing}
-use Rattle.monitor.specs.Conversation.{Sent, Event, conversation, is-forwarded, blamed-else, blamed-first, DemandTwo}
+use Rattle.monitor.specs.Conversation.{Sent, Event, conversation, is-forwarded, blamed-else, blamed-first}
 use Rattle.types.specs.Types.{Said, side-of, takes, opened, speaking, onward, turn, next, why}
 use Rattle.types.specs.Lists.{and-then, after, fault, faulted, type-blames}
 use Rattle.types.specs.Headline.{said-by, forwarded-said, Allows, Judgeable, Handled, Right, Demand}
@@ -256,24 +256,23 @@ module _ (t : Ty) (p : Proper t) where
 
 -- ---- the theorems
 
-module _ (demand-two : DemandTwo) where
-  pub same-verdicts : SameVerdicts
-  unfolding type-blames forwarded-said
-  same-verdicts s h t w sent side =
-      let g = proper s h t w in
-      let events = conversation (reads s .table) sent in
-      let d = type-demand demand-two s h t w sent in
-      let same = heard-faults t g [] events t refl g (λ a e b f. d .each a e b f) in
-      let x = verdict-exactly t g (heard-said events) side in
-      (λ r. sym same ∙ x .0 r, λ f. x .1 (same ∙ f))
+pub same-verdicts : SameVerdicts
+unfolding type-blames forwarded-said
+same-verdicts s h t w sent side =
+    let g = proper s h t w in
+    let events = conversation (reads s .table) sent in
+    let d = type-demand s h t w sent in
+    let same = heard-faults t g [] events t refl g (λ a e b f. d .each a e b f) in
+    let x = verdict-exactly t g (heard-said events) side in
+    (λ r. sym same ∙ x .0 r, λ f. x .1 (same ∙ f))
 
-  pub same-breaks : SameBreaks
-  unfolding type-blames forwarded-said blamed-first
-  same-breaks s h t w sent k side =
-      let g = proper s h t w in
-      let events = conversation (reads s .table) sent in
-      let d = type-demand demand-two s h t w sent in
-      let same = ap (λ l. faulted turn next t (map said-by l)) (sym (d .all-met))
-      ∙ break-faults t g [] events t refl g refl (ap (every proper-sent) (d .all-met) ∙ k) (λ a e b f. d .each a e b f) in
-      let x = verdict-exactly t g (map said-by sent) side in
-      (λ r. sym same ∙ x .0 r, λ f. x .1 (same ∙ f))
+pub same-breaks : SameBreaks
+unfolding type-blames forwarded-said blamed-first
+same-breaks s h t w sent k side =
+    let g = proper s h t w in
+    let events = conversation (reads s .table) sent in
+    let d = type-demand s h t w sent in
+    let same = ap (λ l. faulted turn next t (map said-by l)) (sym (d .all-met))
+    ∙ break-faults t g [] events t refl g refl (ap (every proper-sent) (d .all-met) ∙ k) (λ a e b f. d .each a e b f) in
+    let x = verdict-exactly t g (map said-by sent) side in
+    (λ r. sym same ∙ x .0 r, λ f. x .1 (same ∙ f))
