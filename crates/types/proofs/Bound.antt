@@ -1,0 +1,42 @@
+-- Where every name is bound by a `rec` around it (question 4), a type is closed.
+-- Assumes nothing.
+use Prim.Native.Nat.{ℕ}
+use mathlib.Core.Path.{_≡_, refl, sym, ap, _∙_}
+use mathlib.Core.Bool.{Bool, true, false, _||_, cond, false≢true}
+use mathlib.Core.List.{List, [], _∷_}
+use lib.Dec.{eqb}
+use borrow.Author.Tests.{eqb-true}
+use Rattle.table.proofs.Lists.{both}
+use Rattle.text.specs.Token.{oneOf}
+use Rattle.text.specs.Grammar.{Ty, stop, var, loop, choice, Br, last, also, names-bound, names-boundBr}
+use Rattle.types.specs.Types.{free, freeBr, Closed}
+use Rattle.types.proofs.Close.{eqb-sym}
+
+mutual
+  -- a free name is one of those around
+  free-bound : (t : Ty) (x : ℕ) (xs : List ℕ) → names-bound t xs ≡ true → free t x ≡ true → oneOf xs x ≡ true
+  free-bound stop x xs b f = absurd (false≢true f)
+  free-bound (var y) x xs b f = ap (oneOf xs) (sym (eqb-true y x f)) ∙ b
+  free-bound (loop y t) x xs b f = go (eqb y x) (sym (eqb-sym y x)) f (λ f. free-bound t x (y ∷ xs) b f)
+    where
+      go : (c : Bool) → eqb x y ≡ c → cond c false (free t x) ≡ true → (free t x ≡ true → cond (eqb x y) true (oneOf xs x) ≡ true) → oneOf xs x ≡ true
+      go true e f i = absurd (false≢true f)
+      go false e f i = sym (ap (λ c. cond c true (oneOf xs x)) e) ∙ i f
+  free-bound (choice w bs) x xs b f = free-boundBr bs x xs b f
+
+  free-boundBr : (bs : Br) (x : ℕ) (xs : List ℕ) → names-boundBr bs xs ≡ true → freeBr bs x ≡ true → oneOf xs x ≡ true
+  free-boundBr (last l fs t) x xs b f = free-bound t x xs b f
+  free-boundBr (also l fs t bs) x xs b f =
+      let w = both (names-bound t xs) (names-boundBr bs xs) b in
+      go (free t x) refl f (λ e. free-bound t x xs (w .0) e) (λ e. free-boundBr bs x xs (w .1) e)
+    where
+      go : (c : Bool) → free t x ≡ c → (c || freeBr bs x) ≡ true → (free t x ≡ true → oneOf xs x ≡ true) → (freeBr bs x ≡ true → oneOf xs x ≡ true) → oneOf xs x ≡ true
+      go true e f i j = i e
+      go false e f i j = j f
+
+pub bound-closed : (t : Ty) → names-bound t [] ≡ true → Closed t
+bound-closed t b x = go (free t x) refl
+  where
+    go : (c : Bool) → free t x ≡ c → c ≡ false
+    go true e = absurd (false≢true (free-bound t x [] b e))
+    go false e = refl

@@ -1,0 +1,14 @@
+pub mod Close
+pub mod Stands
+pub mod Numbering
+pub mod Agree
+pub mod Bound
+pub mod Rules
+pub mod Reasons
+pub mod Texts
+pub mod Headline
+pub mod Dual
+pub mod Monitored
+pub mod Finished
+pub mod Composed
+pub mod Published
