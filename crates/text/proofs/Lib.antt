@@ -1,0 +1,13 @@
+pub mod Bytes
+pub mod Runs
+pub mod Span
+pub mod Onward
+pub mod Tokens
+pub mod Unroll
+pub mod Steps
+pub mod FieldLaw
+pub mod Grow
+pub mod Law
+pub mod Values
+pub mod Scans
+pub mod Words

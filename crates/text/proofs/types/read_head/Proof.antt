@@ -1,0 +1,97 @@
+-- `text::types/read_head` meets its contract. Assumes nothing.
+use borrow.Author.Tests.{eq-eqb, ne-eqb, le-leb, lt-leb}
+use borrow.Author.Needs.{needs}
+use Rattle.text.specs.Recursive.{headAt, headed, bodyAt}
+use Rattle.text.proofs.types.read_head.Statement.{statement}
+use Rattle.text.proofs.types.read_head.Tie as tie
+
+token-at-requires : tie.Need-token-at-requires
+token-at-requires c κs = search needs
+
+unexpected-requires : tie.Need-unexpected-requires
+unexpected-requires c κs = search needs
+
+refuse-requires : tie.Need-refuse-requires
+refuse-requires c κs = search needs
+
+returns : tie.Need-returns
+unfolding headAt headed bodyAt
+returns c = simp (← c .before .before .before .before .token-at .ensures .0, ne-eqb _ _ (c .before .before .if1 .taken), ← c .before .unexpected .ensures, ← c .refuse .ensures)
+
+cast-n : tie.Need-cast-n
+cast-n c = search needs
+
+refuse-requires-2 : tie.Need-refuse-requires-2
+refuse-requires-2 c κs = search needs
+
+returns-2 : tie.Need-returns-2
+unfolding headAt headed bodyAt
+returns-2 c = simp (← c .before .before .before .before .token-at .ensures .0, eq-eqb _ _ (c .before .before .if1 .left), le-leb _ _ (c .before .if2 .taken), ← c .refuse2 .ensures)
+
+read-label-requires : tie.Need-read-label-requires
+read-label-requires c κs = search needs
+
+refuse-requires-3 : tie.Need-refuse-requires-3
+refuse-requires-3 c κs = search needs
+
+returns-3 : tie.Need-returns-3
+unfolding headAt headed bodyAt
+returns-3 c = simp (← c .before .before .before .before .before .before .before .before .before .before .token-at .ensures .0, eq-eqb _ _ (c .before .before .before .before .before .before .before .before .if1 .left), lt-leb _ _ (c .before .before .before .before .before .before .before .if2 .left), ← c .before .before .before .read-label .ensures, ne-eqb _ _ (c .before .if3 .taken), ← c .refuse3 .ensures)
+
+read-fields-requires : tie.Need-read-fields-requires
+read-fields-requires c κs = search needs
+
+refuse-requires-4 : tie.Need-refuse-requires-4
+refuse-requires-4 c κs = search needs
+
+returns-4 : tie.Need-returns-4
+unfolding headAt headed bodyAt
+returns-4 c = simp (← c .before .before .before .before .before .before .before .before .before .before .before .before .before .token-at .ensures .0, eq-eqb _ _ (c .before .before .before .before .before .before .before .before .before .before .before .if1 .left), lt-leb _ _ (c .before .before .before .before .before .before .before .before .before .before .if2 .left), ← c .before .before .before .before .before .before .read-label .ensures, eq-eqb _ _ (c .before .before .before .before .if3 .left), ← c .before .before .before .read-fields .ensures, ne-eqb _ _ (c .before .if4 .taken), ← c .refuse4 .ensures)
+
+expect-requires : tie.Need-expect-requires
+expect-requires c κs = search needs
+
+refuse-requires-5 : tie.Need-refuse-requires-5
+refuse-requires-5 c κs = search needs
+
+returns-5 : tie.Need-returns-5
+unfolding headAt headed bodyAt
+returns-5 c = simp (← c .before .before .before .before .before .before .before .before .before .before .before .before .before .before .before .before .token-at .ensures .0, eq-eqb _ _ (c .before .before .before .before .before .before .before .before .before .before .before .before .before .before .if1 .left), lt-leb _ _ (c .before .before .before .before .before .before .before .before .before .before .before .before .before .if2 .left), ← c .before .before .before .before .before .before .before .before .before .read-label .ensures, eq-eqb _ _ (c .before .before .before .before .before .before .before .if3 .left), ← c .before .before .before .before .before .before .read-fields .ensures, eq-eqb _ _ (c .before .before .before .before .if4 .left), ← c .before .before .before .expect .ensures, ne-eqb _ _ (c .before .if5 .taken), ← c .refuse5 .ensures)
+
+target-of-requires : tie.Need-target-of-requires
+target-of-requires c κs = c .before .before .before .before .before .before .before .before .before .before .before .before .before .before .before .before .before .pre
+
+branch-of-requires : tie.Need-branch-of-requires
+branch-of-requires c κs = search needs
+
+add-branch-requires : tie.Need-add-branch-requires
+add-branch-requires c κs = c .before .before .before .before .before .before .before .before .before .before .before .before .before .before .if2 .left
+
+returns-6 : tie.Need-returns-6
+unfolding headAt headed bodyAt
+returns-6 c = simp (← c .before .before .before .before .before .before .before .before .before .before .before .before .before .before .before .before .before .before .token-at .ensures .0, eq-eqb _ _ (c .before .before .before .before .before .before .before .before .before .before .before .before .before .before .before .before .if1 .left), lt-leb _ _ (c .before .before .before .before .before .before .before .before .before .before .before .before .before .before .before .if2 .left), ← c .before .before .before .before .before .before .before .before .before .before .before .read-label .ensures, eq-eqb _ _ (c .before .before .before .before .before .before .before .before .before .if3 .left), ← c .before .before .before .before .before .before .before .before .read-fields .ensures, eq-eqb _ _ (c .before .before .before .before .before .before .if4 .left), ← c .before .before .before .before .before .expect .ensures, eq-eqb _ _ (c .before .before .before .if5 .left), ← c .before .before .target-of .ensures, ← c .before .branch-of .ensures, ← c .add-branch .ensures)
+
+pub read-head-spec : {M : Type 1} → statement M
+read-head-spec =
+    tie.close
+    (tie.spec
+    token-at-requires
+    unexpected-requires
+    refuse-requires
+    returns
+    cast-n
+    refuse-requires-2
+    returns-2
+    read-label-requires
+    refuse-requires-3
+    returns-3
+    read-fields-requires
+    refuse-requires-4
+    returns-4
+    expect-requires
+    refuse-requires-5
+    returns-5
+    target-of-requires
+    branch-of-requires
+    add-branch-requires
+    returns-6)

@@ -1,0 +1,15 @@
+-- `reader::refuse` meets its contract: the tests on the way say which case holds. Assumes nothing.
+use borrow.Author.Needs.{needs}
+use Rattle.text.specs.Building.{refused}
+use Rattle.text.proofs.types.refuse.Statement.{statement}
+use Rattle.text.proofs.types.refuse.Tie as tie
+
+empty-requires : tie.Need-empty-requires
+empty-requires c κs = search needs
+
+returns : tie.Need-returns
+unfolding refused
+returns c = simp (← c .empty .ensures)
+
+pub refuse-spec : {M : Type 1} → statement M
+refuse-spec = tie.close (tie.spec empty-requires returns)
