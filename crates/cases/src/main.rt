@@ -10,6 +10,7 @@ mod line;
 mod messages;
 mod numbers;
 mod tables;
+mod texts;
 
 // How many lines there were, how many of them were cases, and how many of these went wrong.
 struct Tally {
@@ -46,6 +47,8 @@ fn answer(
         b'm' => messages::refusal(numbers, given, got),
         b'n' => messages::front(numbers, given, got),
         b'h' => messages::has_label(numbers, given, got),
+        b'q' => texts::counts(numbers, given, got),
+        b'r' => texts::whole(numbers, given, got),
         b'k' => messages::make(tables::edited(base, numbers, 3, given), numbers, got),
         _ => 0,
     }
@@ -168,4 +171,5 @@ fn run_file(name: &[u8]) {
 fn main() {
     run_file(b"tables");
     run_file(b"messages");
+    run_file(b"texts");
 }
