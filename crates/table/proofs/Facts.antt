@@ -182,7 +182,7 @@ module _ (t : D.Table) where
   unfolding view
   branches-of = upto-length (t .branches) (branchAt t)
 
-  sort-of : (i : ℕ) → i < t .states → T.sort (view t) i ≡ sortOf (getD (t .sort) i 0)
+  pub sort-of : (i : ℕ) → i < t .states → T.sort (view t) i ≡ sortOf (getD (t .sort) i 0)
   unfolding view T.sort
   sort-of i l = upto-at (t .states) (λ i. sortOf (getD (t .sort) i 0)) T.ends i l
 

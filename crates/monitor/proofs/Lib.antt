@@ -1,0 +1,5 @@
+pub mod Asking
+pub mod Demand
+pub mod Leaves
+pub mod Waiting
+pub mod ByPlaces
