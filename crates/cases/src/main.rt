@@ -4,12 +4,16 @@ ghost use Prim.Native.Nat.{_+_, _≤_, _<_};
 ghost use lib.ListN.{length};
 ghost use Rattle.io.specs.Counts.{Counts};
 use libc::STDOUT_FILENO;
+use monitor::State;
 use table::Table;
 
+mod fits;
 mod line;
 mod messages;
 mod numbers;
+mod steps;
 mod tables;
+mod texts;
 
 // How many lines there were, how many of them were cases, and how many of these went wrong.
 struct Tally {
@@ -30,10 +34,12 @@ fn load(name: &[u8], buf: &mut [u8]) -> usize
     n
 }
 
+// `base` is the table that lines edit, and `talk` the state of the conversation that goes on.
 // How many numbers the command's call puts into `got`; none for an unknown command.
 fn answer(
     command: u8,
     base: Table,
+    talk: State,
     numbers: &[u64; 9216],
     given: usize,
     got: &mut [u64; 9216],
@@ -46,6 +52,14 @@ fn answer(
         b'm' => messages::refusal(numbers, given, got),
         b'n' => messages::front(numbers, given, got),
         b'h' => messages::has_label(numbers, given, got),
+        b'q' => texts::counts(numbers, given, got),
+        b'r' => texts::whole(numbers, given, got),
+        b's' => steps::step_from(base, numbers, given, got),
+        b'g' => steps::put_state(monitor::fresh(), got, 0),
+        b'u' => steps::step(base, talk, numbers, 2, given, got),
+        b'w' => steps::due(base, numbers, given, got),
+        b'x' => fits::answer(numbers, given, got),
+        b'y' => fits::short(numbers, given, got),
         b'k' => messages::make(tables::edited(base, numbers, 3, given), numbers, got),
         _ => 0,
     }
@@ -98,10 +112,11 @@ fn right(
     l: line::Line,
     number: u64,
     base: Table,
+    talk: State,
     numbers: &[u64; 9216],
     got: &mut [u64; 9216],
 ) -> bool {
-    let n = answer(l.command, base, numbers, l.given, got);
+    let n = answer(l.command, base, talk, numbers, l.given, got);
     let ok = agrees(numbers, l.given, l.total, got, n);
     if !ok {
         print_wrong(number, got, n);
@@ -129,6 +144,7 @@ fn run(s: &[u8]) -> Tally
     let mut numbers = [0u64; 9216];
     let mut got = [0u64; 9216];
     let mut base = table::empty();
+    let mut talk = monitor::fresh();
     let mut tally = Tally {
         lines: 0,
         cases: 0,
@@ -143,8 +159,9 @@ fn run(s: &[u8]) -> Tally
             base = tables::edited(table::empty(), &numbers, 0, l.given);
         }
         if l.command != 0 {
-            let ok = right(l, tally.lines, base, &numbers, &mut got);
+            let ok = right(l, tally.lines, base, talk, &numbers, &mut got);
             tally = counted(tally, ok);
+            talk = steps::goes_on(l.command, talk, &got);
         }
     }
     tally
@@ -168,4 +185,7 @@ fn run_file(name: &[u8]) {
 fn main() {
     run_file(b"tables");
     run_file(b"messages");
+    run_file(b"texts");
+    run_file(b"monitor");
+    run_file(b"fits");
 }
