@@ -1,22 +1,22 @@
 -- A type and its table allow the same lists of messages, complete the same, and blame the same side.
 -- Assumes nothing.
-use Prim.Native.Nat.{ℕ, suc}
 use mathlib.Core.Path.{_≡_, refl, sym, ap, ap₂, _∙_, fun-ext}
 use mathlib.Core.Bool.{Bool, true, false, not, cond}
 use mathlib.Core.List.{List, [], _∷_}
 use mathlib.Core.Option.{Option, none, some}
+use Prim.Native.Nat.{ℕ, suc}
 use lib.Dec.{eqb}
 use borrow.Author.Tests.{eq-eqb}
-use Rattle.table.specs.Table.{Sort, ends, Table, sort, is-choice}
+use Rattle.table.specs.Table.{Table, sort, is-choice}
 use Rattle.table.proofs.Lists.{never}
-use Rattle.message.specs.Judge.{goes, allows}
+use Rattle.message.specs.Judge.{allows}
 use Rattle.text.specs.Grammar.{Way, sends, receives, Ty, stop, var, loop, choice, Br, last, also, sortOf, nothing-bound, tableOf, is-name, recs-guarded}
 use Rattle.monitor.specs.declared.Party.{Party}
 use Rattle.monitor.specs.Step.{speaker, is-party}
-use Rattle.types.specs.Types.{Said, side-of, Closed, opened, speaking, onward, is-stop, turn, next, at-end}
+use Rattle.types.specs.Types.{Said, side-of, Closed, speaking, onward, is-stop, turn, next, at-end}
 use Rattle.types.specs.Lists.{and-then, is-some, holds-of, after, allowed, completed, fault, faulted, type-allows, type-completes, type-blames, turn-at, next-state, ended, table-allows, table-completes, table-blames}
 use Rattle.types.proofs.Close.{hide, close, closeBr}
-use Rattle.types.proofs.Stands.{own, no-meaning, Alike, neither, each, Stands, none-yet, Represents, Head, an-end, a-choice, head, goes-alike}
+use Rattle.types.proofs.Stands.{no-meaning, Alike, neither, each, none-yet, Represents, Head, an-end, a-choice, head, goes-alike}
 use Rattle.types.proofs.Numbering.{at, table-stands, allows-at}
 
 -- ---- two systems of which one message keeps R

@@ -1,14 +1,14 @@
 -- The rules and the functions say the same: Step t side m u exactly when next t (side, m) ≡ some u. What a step keeps.
 -- Assumes nothing.
-use Prim.Native.Nat.{ℕ, zero, suc}
 use mathlib.Core.Path.{_≡_, refl, sym, ap, _∙_, subst}
 use mathlib.Core.Logic.{_↔_}
 use mathlib.Core.Bool.{Bool, true, false, not, _&&_, cond, true≢false}
 use mathlib.Core.List.{List, [], _∷_}
 use mathlib.Core.Option.{Option, none, some, Option·some-injective}
+use Prim.Native.Nat.{ℕ, zero, suc}
 use native.Mathlib.Omega.{arith}
 use lib.Dec.{eqb}
-use borrow.Author.Tests.{not-true, eqb-true, eq-eqb}
+use borrow.Author.Tests.{not-true, eq-eqb}
 use Rattle.table.specs.Lists.{same}
 use Rattle.table.specs.View.{labelOf}
 use Rattle.table.proofs.Lists.{both, join, never, refuted}

@@ -1,13 +1,13 @@
 -- A text that is read: its type is proper and closed, and its table says what its type says.
 -- Assumes nothing.
-use Prim.Native.Nat.{ℕ}
 use mathlib.Core.Path.{_≡_, refl, sym, ap, subst, _∙_}
 use mathlib.Core.Logic.{_↔_}
 use mathlib.Core.Bool.{true, false≢true}
 use mathlib.Core.List.{List}
 use mathlib.Core.Option.{Option, none, some}
-use Rattle.table.specs.View.{view, dualOf}
+use Prim.Native.Nat.{ℕ}
 use Rattle.table.specs.Table.{dual as dual-table}
+use Rattle.table.specs.View.{view, dualOf}
 use Rattle.table.proofs.Twice.{dual-view}
 use Rattle.text.specs.Grammar.{Ty, Writes, Legal, tableOf}
 use Rattle.text.specs.Reading.{reads}

@@ -1,10 +1,10 @@
 -- Lists of messages, for types and for tables alike: A is the types or a table's states, f where a message leads if it is allowed.
 -- Assumes nothing.
-use Prim.Native.Nat.{ℕ}
 use mathlib.Core.Path.{_≡_}
 use mathlib.Core.Bool.{Bool, true, false, not, cond}
 use mathlib.Core.List.{List, [], _∷_}
 use mathlib.Core.Option.{Option, none, some}
+use Prim.Native.Nat.{ℕ}
 use Rattle.table.specs.Table.{Table, sort, is-choice}
 use Rattle.message.specs.Judge.{allows}
 use Rattle.text.specs.Grammar.{Ty}

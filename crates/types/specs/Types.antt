@@ -1,11 +1,11 @@
 -- Session types as published (source document 001, Figure 3), on the syntax of protocol texts: what a type allows, by substitution and not
 -- by table. Document 01's kinds and ranges stand for the published payload types.
 -- Assumes nothing.
-use Prim.Native.Nat.{ℕ, zero, suc}
 use mathlib.Core.Path.{_≡_}
 use mathlib.Core.Bool.{Bool, true, false, _&&_, _||_, cond}
 use mathlib.Core.List.{List, [], _∷_, map}
 use mathlib.Core.Option.{Option, none, some}
+use Prim.Native.Nat.{ℕ, zero, suc}
 use lib.Dec.{eqb}
 use Rattle.table.specs.Lists.{matched, same}
 use Rattle.table.specs.View.{labelOf}
@@ -146,14 +146,14 @@ abbrev pub fields-of : Br → List ℕ → Option (List Field)
 fields-of (last l fs t) label = cond (same (labelOf l) label) (some fs) none
 fields-of (also l fs t bs) label = cond (same (labelOf l) label) (some fs) (fields-of bs label)
 
-abbrev pub by-range : Option ℕ → ℕ × Option ℕ
-by-range none = (0, none)
-by-range (some f) = (3, some f)
+abbrev pub by-outside : Option ℕ → ℕ × Option ℕ
+by-outside none = (0, none)
+by-outside (some f) = (3, some f)
 
 -- 1 no such label; 2 field count or kinds differ; 3 a number outside its range, with the first such field; 0 if none holds
 abbrev pub by-fields : Option (List Field) → List Value → ℕ × Option ℕ
 by-fields none vs = (1, none)
-by-fields (some fs) vs = cond (matched same-kind (map fieldOf fs) vs) (by-range (first-outside 0 (map fieldOf fs) vs)) (2, none)
+by-fields (some fs) vs = cond (matched same-kind (map fieldOf fs) vs) (by-outside (first-outside 0 (map fieldOf fs) vs)) (2, none)
 
 -- of a type whose `rec`s are unfolded, then of any
 abbrev pub reason-at : Ty → Message → ℕ × Option ℕ
