@@ -15,8 +15,8 @@ use Rattle.table.proofs.Lists.{both}
 use Rattle.message.specs.Message.{Message}
 use Rattle.message.specs.Judge.{holds, names, carries, goes}
 use Rattle.text.specs.Grammar.{Way, Field, Ty, stop, var, loop, choice, Br, last, also, fieldOf, sortOf, sorts, Scope, nothing-bound, bind, or-else, first-state, branchOf, is-name, recs-guarded, recs-guardedBr}
-use Rattle.types.specs.Types.{free, freeBr, Closed, recs, unroll, opened, hold, fits, takes}
-use Rattle.types.proofs.Close.{nothing-some, or-left, or-right, Meaning, hide, given, otherwise, close, closeBr, Shut, Covers, CoversBr, put-close, close-free}
+use Rattle.types.specs.Types.{recs, unroll, opened, hold, fits, takes}
+use Rattle.types.proofs.Close.{free, freeBr, Closed, nothing-some, or-left, or-right, Meaning, hide, given, otherwise, close, closeBr, Shut, Covers, CoversBr, put-close, close-free}
 
 -- a choice's own branches: o is its state, n the next free one
 abbrev pub own : Br → Scope → ℕ → ℕ → List Branch

@@ -3,7 +3,7 @@
 use mathlib.Core.Path.{_≡_, refl, sym, ap, subst, _∙_}
 use mathlib.Core.Logic.{_↔_}
 use mathlib.Core.Bool.{true, false≢true}
-use mathlib.Core.List.{List}
+use mathlib.Core.List.{List, map}
 use mathlib.Core.Option.{Option, none, some}
 use Prim.Native.Nat.{ℕ}
 use Rattle.table.specs.Table.{dual as dual-table}
@@ -14,12 +14,13 @@ use Rattle.text.specs.Reading.{reads}
 use Rattle.text.proofs.Exactly.{read-only, read-table, read-sound}
 use Rattle.text.proofs.Unique.{syntax-unique}
 use Rattle.text.proofs.Names.{labels-legal}
-use Rattle.types.specs.Types.{Said, Closed, next, at-end, dual}
+use Rattle.types.specs.Types.{Said, next, at-end, dual, flip}
 use Rattle.types.specs.Lists.{holds-of, after, completed, type-allows, type-completes, type-blames, Completes, table-allows, table-completes, table-blames}
+use Rattle.types.proofs.Close.{Closed}
 use Rattle.types.proofs.Bound.{bound-closed}
 use Rattle.types.proofs.Rules.{Proper, steps-exactly}
 use Rattle.types.proofs.Agree.{Stands-for, starts, allows-same, completes-same, blames-same}
-use Rattle.types.proofs.Dual.{dual-table-of}
+use Rattle.types.proofs.Dual.{dual-table-of, dual-allows, dual-completes}
 
 module _ (s : List ℕ) (h : reads s .question ≡ 0) (t : Ty) (w : Writes s t) where
   legal : Legal t
@@ -52,7 +53,14 @@ module _ (s : List ℕ) (h : reads s .question ≡ 0) (t : Ty) (w : Writes s t) 
   pub text-dual : view (dualOf (reads s .table) .table) ≡ tableOf (dual t)
   text-dual = dual-view (reads s .table) (read-sound s h) ∙ ap dual-table table ∙ sym (dual-table-of t)
 
-  -- by the rules
+  -- which allows and completes what the type does, with the sides exchanged
+  pub text-dual-allows : (vs : List Said) → type-allows (dual t) vs ≡ type-allows t (map flip vs)
+  text-dual-allows vs = dual-allows t closed (legal .guarded) vs
+
+  pub text-dual-completes : (vs : List Said) → type-completes (dual t) vs ≡ type-completes t (map flip vs)
+  text-dual-completes vs = dual-completes t closed (legal .guarded) vs
+
+  -- completion by the rules
   pub completes-exactly : (vs : List Said) → Completes t vs ↔ (table-completes (view (reads s .table)) vs ≡ true)
   unfolding type-completes completed
   completes-exactly vs = (λ c. sym (text-completes vs) ∙ to c, λ e. from (after next t vs) refl (text-completes vs ∙ e))

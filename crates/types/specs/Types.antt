@@ -2,7 +2,7 @@
 -- by table. Document 01's kinds and ranges stand for the published payload types.
 -- Assumes nothing.
 use mathlib.Core.Path.{_≡_}
-use mathlib.Core.Bool.{Bool, true, false, _&&_, _||_, cond}
+use mathlib.Core.Bool.{Bool, true, false, _&&_, cond}
 use mathlib.Core.List.{List, [], _∷_, map}
 use mathlib.Core.Option.{Option, none, some}
 use Prim.Native.Nat.{ℕ, zero, suc}
@@ -26,25 +26,9 @@ abbrev pub side-of : Way → Party
 side-of sends = Device
 side-of receives = Host
 
--- ---- names
+-- ---- substitution
 
--- x stands in the type, and no `rec` of that name stands around it
-abbrev mutual
-  pub free : Ty → ℕ → Bool
-  free stop x = false
-  free (var y) x = eqb y x
-  free (loop y t) x = cond (eqb y x) false (free t x)
-  free (choice w bs) x = freeBr bs x
-
-  pub freeBr : Br → ℕ → Bool
-  freeBr (last l fs t) x = free t x
-  freeBr (also l fs t bs) x = free t x || freeBr bs x
-
--- every name is bound by a `rec` around it
-abbrev pub Closed : Ty → Type 0
-Closed t = (x : ℕ) → free t x ≡ false
-
--- t [ u / x ], for a closed u
+-- t [ u / x ], for a u in which every name is bound
 abbrev mutual
   pub put : Ty → ℕ → Ty → Ty
   put stop x u = stop
