@@ -18,7 +18,7 @@ use Rattle.types.specs.Types.{Said, next, at-end, dual, flip}
 use Rattle.types.specs.Lists.{holds-of, after, completed, type-allows, type-completes, type-blames, Completes, table-allows, table-completes, table-blames}
 use Rattle.types.proofs.Close.{Closed}
 use Rattle.types.proofs.Bound.{bound-closed}
-use Rattle.types.proofs.Rules.{Proper, steps-exactly}
+use Rattle.types.proofs.Rules.{Proper, ends-exactly, proper-after, steps-exactly}
 use Rattle.types.proofs.Agree.{Stands-for, starts, allows-same, completes-same, blames-same}
 use Rattle.types.proofs.Dual.{dual-table-of, dual-allows, dual-completes}
 
@@ -66,8 +66,11 @@ module _ (s : List ℕ) (h : reads s .question ≡ 0) (t : Ty) (w : Writes s t) 
   completes-exactly vs = (λ c. sym (text-completes vs) ∙ to c, λ e. from (after next t vs) refl (text-completes vs ∙ e))
     where
       to : Completes t vs → holds-of at-end (after next t vs) ≡ true
-      to c = ap (holds-of at-end) (steps-exactly t (c .left) vs proper .0 (c .led)) ∙ c .over
+      to c =
+          let e = steps-exactly t (c .left) vs proper .0 (c .led) in
+          ap (holds-of at-end) e ∙ ends-exactly (c .left) (proper-after t (c .left) vs proper e) .0 (c .over)
 
       from : (o : Option Ty) → after next t vs ≡ o → holds-of at-end o ≡ true → Completes t vs
       from none f e = absurd (false≢true e)
-      from (some u) f e = record { left = u; led = steps-exactly t u vs proper .1 f; over = e }
+      from (some u) f e =
+          record { left = u; led = steps-exactly t u vs proper .1 f; over = ends-exactly u (proper-after t u vs proper f) .1 e }
