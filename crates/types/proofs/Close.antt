@@ -1,16 +1,16 @@
 -- Substitution for many names at once, and that to unfold a rec is to give its name a meaning:
 -- put (close t (hide x ρ)) x u ≡ close t (given x u ρ).
 -- Assumes nothing.
-use Prim.Native.Nat.{ℕ}
 use mathlib.Core.Path.{_≡_, refl, sym, ap, ap₂, _∙_, fun-ext}
 use mathlib.Core.Bool.{Bool, true, false, _||_, cond, true≢false}
 use mathlib.Core.Option.{Option, none, some}
+use Prim.Native.Nat.{ℕ}
 use native.Mathlib.Omega.{arith}
 use lib.Dec.{eqb}
 use borrow.Author.Tests.{eqb-true, eq-eqb}
 use Rattle.table.proofs.Lists.{never}
 use Rattle.text.specs.Grammar.{Ty, stop, var, loop, choice, Br, last, also}
-use Rattle.types.specs.Types.{free, freeBr, Closed, put, putBr}
+use Rattle.types.specs.Types.{put, putBr}
 
 -- ---- names
 
@@ -36,6 +36,24 @@ or-right false e = e
 pub neither-of : (a b : Bool) → (a || b) ≡ false → (a ≡ false) × (b ≡ false)
 neither-of true b e = absurd (true≢false e)
 neither-of false b e = (refl, e)
+
+-- ---- free names
+
+-- x stands in the type, and no `rec` of that name stands around it
+abbrev mutual
+  pub free : Ty → ℕ → Bool
+  free stop x = false
+  free (var y) x = eqb y x
+  free (loop y t) x = cond (eqb y x) false (free t x)
+  free (choice w bs) x = freeBr bs x
+
+  pub freeBr : Br → ℕ → Bool
+  freeBr (last l fs t) x = free t x
+  freeBr (also l fs t bs) x = free t x || freeBr bs x
+
+-- every name is bound by a `rec` around it
+abbrev pub Closed : Ty → Type 0
+Closed t = (x : ℕ) → free t x ≡ false
 
 -- ---- many names at once
 

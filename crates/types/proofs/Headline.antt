@@ -1,26 +1,24 @@
 -- Demand 2 with the type in place of the table. Whatever was said so far, the forwarded messages lead the type and the table to a
 -- type and a state that stand for each other (`Reached`), and there both give every message the same.
 -- Assumes nothing.
-use Prim.Native.Nat.{ℕ, suc}
 use mathlib.Core.Path.{_≡_, refl, sym, ap, subst, _∙_}
-use mathlib.Core.Logic.{_↔_}
-use mathlib.Core.Bool.{Bool, true, false, not, cond, true≢false}
+use mathlib.Core.Bool.{Bool, true, false, not, cond}
 use mathlib.Core.List.{List, [], _∷_, _++_, append-assoc, append-nil}
 use mathlib.Core.Option.{Option, none, some, Option·some-injective}
+use Prim.Native.Nat.{ℕ}
 use lib.ListN.{length}
 use lib.Dec.{leb}
 use Rattle.table.specs.Table.{Table, sort, is-choice}
-use Rattle.table.specs.View.{view, soundOf}
-use Rattle.message.specs.Message.{Message, read, whole, legal-values, exact}
+use Rattle.table.specs.View.{view}
+use Rattle.message.specs.Message.{read, whole, legal-values, exact}
 use Rattle.message.specs.Judge.{allows, judge}
 use Rattle.text.specs.Grammar.{Ty, Writes}
 use Rattle.text.specs.Reading.{reads}
 use Rattle.text.proofs.Exactly.{read-only, read-sound}
 use Rattle.monitor.specs.declared.Party.{Party}
 use Rattle.monitor.specs.Step.{speaker, is-party, first-no, Told, refused, blamed, forwarded, reason, outside}
-use Rattle.monitor.specs.Conversation as C
 use Rattle.monitor.proofs.Demand.{forwarded-append, leads-append, demand-two}
-use Rattle.types.specs.Types.{Said, Step, Steps, turn, next, at-end, why}
+use Rattle.types.specs.Types.{Said, turn, next, at-end, why}
 use Rattle.types.specs.Lists.{and-then, after, turn-at, next-state, ended}
 use Rattle.types.specs.Headline.{said-by, forwarded-said, Allows, Judgeable, refusal-of, Handled, Right, Demand, Headline}
 use Rattle.types.proofs.Close.{nothing-some}
@@ -29,6 +27,7 @@ use Rattle.types.proofs.Agree.{Stands-for, next-alike, turn-alike, end-
 use Rattle.types.proofs.Rules.{Proper, proper-next, its-party, step-exactly, steps-exactly}
 use Rattle.types.proofs.Reasons.{why-alike}
 use Rattle.types.proofs.Texts.{proper, begins}
+use Rattle.monitor.specs.Conversation as C
 
 -- ---- lists
 

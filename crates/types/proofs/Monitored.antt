@@ -1,23 +1,23 @@
 -- The published monitor of a type comes to its verdict on a side exactly where the type, and so the table, blames that side.
 -- Assumes nothing.
-use Prim.Native.Nat.{ℕ, zero, suc}
 use mathlib.Core.Path.{_≡_, refl, sym, ap, ap₂, _∙_, subst}
 use mathlib.Core.Logic.{_↔_, _⊎_, inl, inr, ⊎-elim}
 use mathlib.Core.Bool.{Bool, true, false, _&&_, _||_, cond, true≢false}
 use mathlib.Core.List.{List, [], _∷_}
 use mathlib.Core.Option.{Option, none, some, Option·some-injective}
+use Prim.Native.Nat.{ℕ, zero, suc}
 use lib.Dec.{eqb}
 use Rattle.table.specs.Lists.{same}
 use Rattle.table.specs.View.{labelOf}
 use Rattle.table.proofs.Facts.{same-eq}
 use Rattle.message.specs.Message.{Value, Message}
-use Rattle.text.specs.Grammar.{Way, Field, Ty, stop, var, loop, choice, Br, last, also, labels-differBr, recs-guarded, labels-differ}
+use Rattle.text.specs.Grammar.{Field, Ty, stop, var, loop, choice, Br, last, also, labels-differBr}
 use Rattle.text.proofs.Names.{LabelledBr}
 use Rattle.monitor.specs.declared.Party.{Party}
 use Rattle.monitor.specs.Step.{is-party}
-use Rattle.types.specs.Types.{Said, side-of, put, putBr, unfolded, hold, Has, only, first, later, recs, unroll, opened, fits, takes, speaking, onward, turn, next, other}
+use Rattle.types.specs.Types.{Said, side-of, put, putBr, unfolded, hold, Has, only, first, later, recs, unroll, opened, fits, takes, speaking, onward, turn, next}
 use Rattle.types.specs.Lists.{and-then, fault, faulted, type-blames}
-use Rattle.types.specs.Monitor.{Payload, it, the, Mon, tell, hear, mu, name, test, done, verdict, Arms, one, more, fill, replace, replace-arms, Arm, the-one, this, that, expects, Act, tau, hears, tells, Moves, telling, unfolding-rec, hearing, passing, failing, refusing, synth, synthBr, Runs, rest, alone, told, heard}
+use Rattle.types.specs.Monitor.{the, Mon, tell, hear, mu, name, test, done, verdict, one, more, fill, replace, replace-arms, Arm, the-one, this, that, expects, Act, Moves, telling, unfolding-rec, hearing, passing, failing, refusing, arm, synth, synthBr, Runs, rest, alone, told, heard}
 use Rattle.types.proofs.Close.{nothing-some, neither-of}
 use Rattle.types.proofs.Rules.{Proper, proper-opened, proper-onward, is-loop, opened-no-loop, decides, Taken, taken, said, its-party, party-its}
 
@@ -39,22 +39,15 @@ mutual
   synth-put (choice w bs) x u = ap (λ ks. hear (side-of w) ks) (synth-putBr bs (side-of w) x u)
 
   synth-putBr : (bs : Br) (s : Party) (x : ℕ) (u : Ty) → synthBr (putBr bs x u) s ≡ replace-arms (synthBr bs s) x (synth u)
-  synth-putBr (last l fs t) s x u = ap (λ M. one (labelOf l) (test fs it (tell (other s) (labelOf l) it M) (verdict s))) (synth-put t x u)
+  synth-putBr (last l fs t) s x u = ap (λ M. one (labelOf l) (arm s (labelOf l) fs M)) (synth-put t x u)
   synth-putBr (also l fs t bs) s x u =
-      ap₂ (λ M ks. more (labelOf l) (test fs it (tell (other s) (labelOf l) it M) (verdict s)) ks) (synth-put t x u) (synth-putBr bs s x u)
+      ap₂ (λ M ks. more (labelOf l) (arm s (labelOf l) fs M) ks) (synth-put t x u) (synth-putBr bs s x u)
 
 pub fill-synth : (t : Ty) (v : List Value) → fill (synth t) v ≡ synth t
 fill-synth stop v = refl
 fill-synth (var x) v = refl
 fill-synth (loop x t) v = ap (λ M. mu x M) (fill-synth t v)
 fill-synth (choice s bs) v = refl
-
--- an arm, its payload filled in
-abbrev pub arm : Party → List ℕ → List Field → Mon → Mon
-arm s l fs M = test fs it (tell (other s) l it M) (verdict s)
-
-abbrev ready : Party → List ℕ → List Field → List Value → Mon → Mon
-ready s l fs v M = test fs (the v) (tell (other s) l (the v) M) (verdict s)
 
 -- a branch has the label
 abbrev spelt : Br → List ℕ → Bool

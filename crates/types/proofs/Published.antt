@@ -1,12 +1,11 @@
 -- The published monitor reaches its verdicts where the steps of the monitor do: a message that is forwarded leads the type on, one that
 -- is blamed is a fault of its sender, after which all are refused, and a refused one is not heard.
 -- Assumes nothing.
-use Prim.Native.Nat.{ℕ, _≤_}
 use mathlib.Core.Path.{_≡_, refl, sym, ap, subst, _∙_}
-use mathlib.Core.Logic.{_↔_}
-use mathlib.Core.Bool.{Bool, true, false, _&&_, cond, true≢false, false≢true}
+use mathlib.Core.Bool.{Bool, true, false, cond}
 use mathlib.Core.List.{List, [], _∷_, _++_, map, append-assoc, append-nil}
 use mathlib.Core.Option.{Option, none, some, Option·some-injective}
+use Prim.Native.Nat.{ℕ}
 use native.Mathlib.Omega.{arith}
 use lib.ListN.{length}
 use lib.Dec.{leb}
@@ -14,7 +13,7 @@ use borrow.Author.Tests.{leb-true}
 use Rattle.table.specs.Lists.{every}
 use Rattle.table.proofs.Lists.{both, never}
 use Rattle.message.specs.Message.{read, well-formed}
-use Rattle.text.specs.Grammar.{Ty, stop, var, loop, choice, Writes}
+use Rattle.text.specs.Grammar.{Ty, stop, var, loop, choice}
 use Rattle.text.specs.Reading.{reads}
 use Rattle.monitor.specs.declared.Party.{Party}
 use Rattle.monitor.specs.declared.Party.the-variants.{Device, Host}
@@ -22,9 +21,8 @@ use Rattle.monitor.specs.Step.{is-party, Told, refused, blamed, forwarded, refu
 use Rattle.monitor.specs.Conversation.{Sent, Event, conversation, is-forwarded, blamed-else, blamed-first}
 use Rattle.types.specs.Types.{Said, side-of, takes, opened, speaking, onward, turn, next, why}
 use Rattle.types.specs.Lists.{and-then, after, fault, faulted, type-blames}
-use Rattle.types.specs.Headline.{said-by, forwarded-said, Allows, Judgeable, Handled, Right, Demand}
+use Rattle.types.specs.Headline.{said-by, forwarded-said, Allows, Judgeable, Handled, Right}
 use Rattle.types.specs.Verdicts.{is-refused, heard-said, SameVerdicts, blamed-by, ends-in-blame, proper-sent, SameBreaks}
-use Rattle.types.specs.Monitor.{synth, verdict, Runs}
 use Rattle.types.proofs.Close.{nothing-some}
 use Rattle.types.proofs.Rules.{Proper, proper-next, its-party, step-exactly, steps-exactly}
 use Rattle.types.proofs.Texts.{proper}

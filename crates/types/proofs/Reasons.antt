@@ -1,21 +1,21 @@
 -- A type and its table's state give the same reason for what they forbid.
 -- Assumes nothing.
-use Prim.Native.Nat.{ℕ, suc, _+_}
-use mathlib.Core.Path.{_≡_, refl, sym, ap, _∙_}
+use mathlib.Core.Path.{_≡_, refl, ap, _∙_}
 use mathlib.Core.Bool.{Bool, true, false, _&&_, cond}
-use mathlib.Core.List.{List, [], _∷_, map}
+use mathlib.Core.List.{List, map}
 use mathlib.Core.Option.{Option, none, some}
+use Prim.Native.Nat.{ℕ, suc, _+_}
 use lib.ListN.{length}
 use borrow.Author.Tests.{eq-eqb}
 use Rattle.table.specs.Lists.{matched, same}
-use Rattle.table.specs.Table.{ends, Branch, Table, sort}
+use Rattle.table.specs.Table.{Branch, Table, sort}
 use Rattle.table.specs.View.{labelOf}
 use Rattle.message.specs.Message.{Message, Value}
 use Rattle.message.specs.Judge.{same-kind, names, Judgement, other-kinds, no-label, first-outside, by-range, judge-branch, judge-among, judge}
 use Rattle.text.specs.Grammar.{Field, Ty, Br, last, also, fieldOf, sorts, Scope, first-state, branchOf}
 use Rattle.monitor.specs.declared.Party.{Party}
 use Rattle.monitor.specs.Step.{reason, outside}
-use Rattle.types.specs.Types.{speaking, opened, turn, fields-of, by-range as by-outside, by-fields, reason-at, why}
+use Rattle.types.specs.Types.{speaking, turn, fields-of, by-outside, by-fields, reason-at, why}
 use Rattle.types.proofs.Close.{nothing-some, Meaning, closeBr}
 use Rattle.types.proofs.Stands.{own, Head, an-end, a-choice, head}
 use Rattle.types.proofs.Numbering.{at, judge-at}

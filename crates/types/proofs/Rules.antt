@@ -1,14 +1,14 @@
 -- The rules and the functions say the same: Step t side m u exactly when next t (side, m) ≡ some u. What a step keeps.
 -- Assumes nothing.
-use Prim.Native.Nat.{ℕ, zero, suc}
 use mathlib.Core.Path.{_≡_, refl, sym, ap, _∙_, subst}
 use mathlib.Core.Logic.{_↔_}
-use mathlib.Core.Bool.{Bool, true, false, not, _&&_, cond, true≢false}
+use mathlib.Core.Bool.{Bool, true, false, not, _&&_, cond, true≢false, false≢true}
 use mathlib.Core.List.{List, [], _∷_}
 use mathlib.Core.Option.{Option, none, some, Option·some-injective}
+use Prim.Native.Nat.{ℕ, zero, suc}
 use native.Mathlib.Omega.{arith}
 use lib.Dec.{eqb}
-use borrow.Author.Tests.{not-true, eqb-true, eq-eqb}
+use borrow.Author.Tests.{not-true, eq-eqb}
 use Rattle.table.specs.Lists.{same}
 use Rattle.table.specs.View.{labelOf}
 use Rattle.table.proofs.Lists.{both, join, never, refuted}
@@ -21,7 +21,7 @@ use Rattle.text.proofs.Names.{Labelled, LabelledBr}
 use Rattle.monitor.specs.declared.Party.{Party}
 use Rattle.monitor.specs.declared.Party.the-variants.{Device, Host}
 use Rattle.monitor.specs.Step.{is-party}
-use Rattle.types.specs.Types.{Said, side-of, put, putBr, unfolded, hold, Has, only, first, later, Step, by-branch, by-rec, Steps, none-yet, one-more, recs, unroll, opened, fits, takes, onward, next}
+use Rattle.types.specs.Types.{Said, side-of, put, putBr, unfolded, hold, Has, only, first, later, Step, by-branch, by-rec, Steps, none-yet, one-more, Ends, at-stop, past-rec, recs, unroll, opened, fits, takes, onward, is-stop, next, at-end}
 use Rattle.types.specs.Lists.{and-then, after}
 use Rattle.types.proofs.Close.{nothing-some}
 
@@ -333,6 +333,27 @@ next-step t v u e = by-unroll (recs t) t v u e
 pub step-exactly : (t : Ty) (v : Said) (u : Ty) → Proper t → Step t (v .side) (v .message) u ↔ (next t v ≡ some u)
 step-exactly t v u p = (λ h. step-next h p, λ e. next-step t v u e)
 
+-- ---- ends
+
+ends-at : {t : Ty} → Ends t → Proper t → at-end t ≡ true
+unfolding at-end opened
+ends-at at-stop p = refl
+ends-at (past-rec {x} {t} h) p = ap is-stop (opened-rec x t (p .guard)) ∙ ends-at h (proper-unfolded x t p)
+
+ends-unrolled : (n : ℕ) (t : Ty) → is-stop (unroll n t) ≡ true → Ends t
+ends-unrolled zero stop e = at-stop
+ends-unrolled zero (var x) e = absurd (false≢true e)
+ends-unrolled zero (loop x t) e = absurd (false≢true e)
+ends-unrolled zero (choice w bs) e = absurd (false≢true e)
+ends-unrolled (suc n) stop e = at-stop
+ends-unrolled (suc n) (var x) e = absurd (false≢true e)
+ends-unrolled (suc n) (loop x t) e = past-rec (ends-unrolled n (unfolded x t) e)
+ends-unrolled (suc n) (choice w bs) e = absurd (false≢true e)
+
+pub ends-exactly : (t : Ty) → Proper t → Ends t ↔ (at-end t ≡ true)
+unfolding at-end opened
+ends-exactly t p = (λ h. ends-at h p, λ e. ends-unrolled (recs t) t e)
+
 -- ---- lists
 
 steps-after : {t u : Ty} {vs : List Said} → Steps t vs u → Proper t → after next t vs ≡ some u
@@ -348,6 +369,14 @@ after-steps t u (v ∷ vs) e = go (next t v) refl e (λ w e. after-steps w u vs 
     go : (o : Option Ty) → next t v ≡ o → and-then o (λ b. after next b vs) ≡ some u → ((w : Ty) → after next w vs ≡ some u → Steps w vs u) → Steps t (v ∷ vs) u
     go none f e i = absurd (nothing-some e)
     go (some w) f e i = one-more (next-step t v w f) (i w e)
+
+pub proper-after : (t u : Ty) (vs : List Said) → Proper t → after next t vs ≡ some u → Proper u
+proper-after t u [] p e = subst Proper (Option·some-injective _ _ e) p
+proper-after t u (v ∷ vs) p e = go (next t v) refl e (λ w q e. proper-after w u vs q e)
+  where
+    go : (o : Option Ty) → next t v ≡ o → and-then o (λ b. after next b vs) ≡ some u → ((w : Ty) → Proper w → after next w vs ≡ some u → Proper u) → Proper u
+    go none f e i = absurd (nothing-some e)
+    go (some w) f e i = i w (proper-next t v w p f) e
 
 pub steps-exactly : (t u : Ty) (vs : List Said) → Proper t → Steps t vs u ↔ (after next t vs ≡ some u)
 steps-exactly t u vs p = (λ h. steps-after h p, λ e. after-steps t u vs e)

@@ -1,10 +1,10 @@
 -- The invariant: a table's state stands for a closed type. S gives the states' sorts, B their branches.
 -- Assumes nothing.
-use Prim.Native.Nat.{ℕ, zero, suc, _+_}
-use mathlib.Core.Path.{_≡_, refl, sym, ap, _∙_, subst}
+use mathlib.Core.Path.{_≡_, refl, sym, ap, subst}
 use mathlib.Core.Bool.{Bool, true, false, not, _&&_, cond, true≢false}
 use mathlib.Core.List.{List, [], _∷_, map}
 use mathlib.Core.Option.{Option, none, some, Option·some-injective}
+use Prim.Native.Nat.{ℕ, suc, _+_}
 use lib.Dec.{eqb}
 use lib.ListN.{length}
 use borrow.Author.Tests.{not-true, eq-eqb}
@@ -15,8 +15,8 @@ use Rattle.table.proofs.Lists.{both}
 use Rattle.message.specs.Message.{Message}
 use Rattle.message.specs.Judge.{holds, names, carries, goes}
 use Rattle.text.specs.Grammar.{Way, Field, Ty, stop, var, loop, choice, Br, last, also, fieldOf, sortOf, sorts, Scope, nothing-bound, bind, or-else, first-state, branchOf, is-name, recs-guarded, recs-guardedBr}
-use Rattle.types.specs.Types.{free, freeBr, Closed, recs, unroll, opened, hold, fits, takes}
-use Rattle.types.proofs.Close.{nothing-some, or-left, or-right, Meaning, hide, given, otherwise, close, closeBr, Shut, Covers, CoversBr, put-close, close-free}
+use Rattle.types.specs.Types.{recs, unroll, opened, hold, fits, takes}
+use Rattle.types.proofs.Close.{free, freeBr, Closed, nothing-some, or-left, or-right, Meaning, hide, given, otherwise, close, closeBr, Shut, Covers, CoversBr, put-close, close-free}
 
 -- a choice's own branches: o is its state, n the next free one
 abbrev pub own : Br → Scope → ℕ → ℕ → List Branch
