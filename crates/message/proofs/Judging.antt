@@ -228,7 +228,7 @@ is-outside (a ∷ fs) (v ∷ vs) k (suc g) l x =
     (record { there = le-of-suc-le-suc (x .there); outside = x .outside; before = λ g l. x .before (suc g) (suc-le-suc l) })
     ∙ ap some (omega arith)
 
-matched-length : {A B : Type 0} (f : A → B → Bool) (r : List A) (s : List B) → matched f r s ≡ true → length r ≡ length s
+pub matched-length : {A B : Type 0} (f : A → B → Bool) (r : List A) (s : List B) → matched f r s ≡ true → length r ≡ length s
 unfolding matched
 matched-length f [] [] e = refl
 matched-length f [] (b ∷ s) e = absurd (false≢true e)

@@ -3,7 +3,7 @@
 use mathlib.Core.Path.{_≡_, refl, sym, ap, _∙_}
 use mathlib.Core.Logic.{_⊎_, inl, inr, ⊎-elim}
 use mathlib.Core.Bool.{Bool, true, false, _&&_, cond}
-use mathlib.Core.List.{List, [], _∷_, _++_}
+use mathlib.Core.List.{List}
 use mathlib.Core.Option.{Option, none, some}
 use Prim.Native.Nat.{ℕ, zero, suc, _≤_, _<_}
 use native.Mathlib.Omega.{arith}
@@ -13,8 +13,8 @@ use borrow.Author.Tests.{ne-eqb, lt-ltb, le-ltb, ltb-true, le-leb, lt-leb, leb-t
 use Rattle.table.specs.Table.{Sort, is-choice, sort}
 use Rattle.table.specs.View.{view, sortOf, soundOf, soundAt}
 use Rattle.table.specs.declared.Table.{Table}
-use Rattle.table.proofs.Lists.{never, both, join, left-fails, right-fails}
-use Rattle.table.proofs.Facts.{Facts, sound-facts, sort-of}
+use Rattle.table.proofs.Lists.{both, join, right-fails}
+use Rattle.table.proofs.Facts.{choice-code, code-choice, Facts, sort-of, sound-facts}
 use Rattle.message.specs.Message.{read, whole, legal-values, exact, refusal}
 use Rattle.message.specs.Judge.{Judgement, allowed, no-label, other-kinds, out-of-range, judge}
 use Rattle.monitor.specs.declared.Party.{Party}
@@ -69,13 +69,8 @@ module _ (t : Table) (s : State) where
       at-end h = rw (here, on, sort-of t (s .position) l, h)
 
       pub at-choice : (getD (t .sort) (s .position) 0 ≡ 0 → ⊥) → first-no (of-state t s) ≡ 0
-      unfolding first-no of-state soundAt sortOf is-choice
-      at-choice h = rw (here, on, sort-of t (s .position) l, choice (getD (t .sort) (s .position) 0) h)
-        where
-          choice : (n : ℕ) → (n ≡ 0 → ⊥) → is-choice (sortOf n) ≡ true
-          choice zero n = absurd (n refl)
-          choice (suc zero) n = refl
-          choice (suc (suc k)) n = refl
+      unfolding first-no of-state soundAt
+      at-choice h = rw (here, on, sort-of t (s .position) l, code-choice (getD (t .sort) (s .position) 0) h)
 
   -- where they get a yes
   pub record Opened : Type 0 where
@@ -84,22 +79,18 @@ module _ (t : Table) (s : State) where
     pub choice : getD (t .sort) (s .position) 0 ≡ 0 → ⊥
 
   pub opened : first-no (of-state t s) ≡ 0 → Opened
-  unfolding first-no of-state soundAt sortOf is-choice
+  unfolding first-no of-state soundAt
   opened h =
       let e = all-three (soundOf t && ltb (s .position) (t .states)) (running (s .standing)) (is-choice (sort (view t) (s .position))) h in
       let b = both (soundOf t) (ltb (s .position) (t .states)) (e .0) in
       let l = ltb-true (s .position) (t .states) (b .1) in
-      record { facts = sound-facts t (b .0); below = l; choice = λ z. no-choice (getD (t .sort) (s .position) 0) z (ap is-choice (sym (sort-of t (s .position) l)) ∙ e .1) }
+      record { facts = sound-facts t (b .0); below = l; choice = choice-code (getD (t .sort) (s .position) 0) (ap is-choice (sym (sort-of t (s .position) l)) ∙ e .1) }
     where
       all-three : (a b c : Bool) → three a b c 0 ≡ 0 → (a ≡ true) × (c ≡ true)
       all-three true true true h = (refl, refl)
       all-three true true false h = absurd (omega (arith, h))
       all-three true false c h = absurd (omega (arith, h))
       all-three false b c h = absurd (omega (arith, h))
-
-      no-choice : (n : ℕ) → n ≡ 0 → is-choice (sortOf n) ≡ true → ⊥
-      no-choice zero z e = never e refl
-      no-choice (suc n) z e = absurd (omega arith)
 
 -- ---- 12 to 16
 

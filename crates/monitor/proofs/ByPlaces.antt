@@ -1,22 +1,23 @@
 -- Judging by places: the first branch that is named decides, then the fields one after another.
 -- Assumes nothing.
-use mathlib.Core.Path.{_≡_, refl, sym, ap, ap₂, subst, _∙_}
+use mathlib.Core.Path.{_≡_, refl, sym, ap, subst, _∙_}
 use mathlib.Core.Bool.{Bool, true, false, not, _&&_, cond}
-use mathlib.Core.List.{List, [], _∷_}
-use mathlib.Core.Option.{Option, none, some}
+use mathlib.Core.List.{List, []}
+use mathlib.Core.Option.{none, some}
 use Prim.Native.Nat.{ℕ, zero, suc, _+_, _*_, _≤_, _<_, zero-le, suc-le-suc}
 use native.Mathlib.Nat.{not-suc-le-zero, le-of-suc-le-suc, add-zero}
 use native.Mathlib.Omega.{arith}
-use lib.ListN.{length, getD, take}
+use lib.ListN.{getD, take}
 use lib.Dec.{eqb}
 use borrow.Author.Tests.{eq-eqb, eqb-true, not-true, not-false}
 use Rattle.table.specs.Lists.{upto, matched, same}
 use Rattle.table.specs.Table.{Field, Branch}
 use Rattle.table.specs.View.{labelOf, branchAt, columns}
 use Rattle.table.specs.Scans.{all, Word}
-use Rattle.table.proofs.Lists.{never, both, join, refuted, alike, all-at, all-by, upto-length}
+use Rattle.table.proofs.Lists.{both, join, refuted, alike, all-at, all-by, upto-length}
 use Rattle.message.specs.Message.{Value, Message, read, count-of, label-word}
-use Rattle.message.specs.Judge.{Judgement, allowed, no-label, other-kinds, out-of-range, same-kind, in-range, names, first-outside, by-range, judge-branch, judge-among}
+use Rattle.message.specs.Judge.{allowed, no-label, other-kinds, out-of-range, same-kind, in-range, names, first-outside, by-range, judge-branch, judge-among}
+use Rattle.message.proofs.Judging.{matched-length}
 use Rattle.message.proofs.Reading.{Whole, value-at, values-places, label-compare, label-word-below}
 use Rattle.monitor.specs.Leaves.{named, First, kind-is, inside}
 
@@ -39,13 +40,6 @@ module _ (i : ℕ) (m : Message) where
 -- ---- two lists of places
 
 module _ {A B : Type 0} (f : A → B → Bool) where
-  pub matched-length : (r : List A) (s : List B) → matched f r s ≡ true → length r ≡ length s
-  unfolding matched
-  matched-length [] [] e = refl
-  matched-length [] (b ∷ s) e = never e refl
-  matched-length (a ∷ r) [] e = never e refl
-  matched-length (a ∷ r) (b ∷ s) e = ap suc (matched-length r s (both (f a b) (matched f r s) e .1))
-
   matched-at : (n : ℕ) (g : ℕ → A) (h : ℕ → B) → matched f (upto n g) (upto n h) ≡ true → (k : ℕ) → k < n → f (g k) (h k) ≡ true
   unfolding matched upto
   matched-at zero g h e k l = absurd (not-suc-le-zero l)

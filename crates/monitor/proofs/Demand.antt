@@ -2,19 +2,16 @@
 -- such a state each way of a step is right, and leaves such a state.
 -- Assumes nothing.
 use mathlib.Core.Path.{_≡_, refl, sym, ap, ap₂, subst, _∙_}
-use mathlib.Core.Logic.{_⊎_, inl, inr, ⊎-elim, _↔_}
 use mathlib.Core.Bool.{Bool, true, false, _&&_, cond}
 use mathlib.Core.List.{List, [], _∷_, _++_, map, append-assoc, append-nil}
 use mathlib.Core.Option.{Option, none, some}
-use Prim.Native.Nat.{ℕ, zero, suc, _≤_, _<_}
+use Prim.Native.Nat.{ℕ, zero, suc, _<_}
 use native.Mathlib.Omega.{arith}
-use lib.ListN.{length, getD}
-use lib.Dec.{leb, ltb, eqb}
+use lib.ListN.{length}
+use lib.Dec.{leb, ltb}
 use borrow.Author.Tests.{leb-true, le-leb, lt-ltb}
-use Rattle.table.specs.Table as T
 use Rattle.table.specs.Lists.{upto}
 use Rattle.table.specs.View.{view, branchAt, known, soundOf, soundAt}
-use Rattle.table.specs.declared.Table as D
 use Rattle.table.proofs.Lists.{never, both, join}
 use Rattle.table.proofs.Facts.{Facts, sound-facts}
 use Rattle.message.specs.Message.{Message, read, whole, legal-values, exact, well-formed}
@@ -22,11 +19,12 @@ use Rattle.message.specs.Judge.{Judgement, allowed, no-label, other-kinds, out-
 use Rattle.message.proofs.Judging.{judge-allows}
 use Rattle.monitor.specs.declared.Party.{Party}
 use Rattle.monitor.specs.declared.Party.the-variants.{Device, Host}
-use Rattle.monitor.specs.declared.Standing.{Standing}
 use Rattle.monitor.specs.declared.State.{State}
 use Rattle.monitor.specs.Step.{fresh, running, blame, speaker, is-party, first-no, of-state, of-message, asked, Told, refused, blamed, forwarded, reason, outside, Stepping, refusing, blaming, forwarding, stepping, stepped}
 use Rattle.monitor.specs.Conversation.{Sent, Event, event, played, conversation, is-forwarded, forwarded-ones, blamed-else, blamed-first, leads, standing-by, Stands, nobody, Judgeable, refusal-of, Handled, Right, Demand, DemandTwo, Answer, Kept, one-more}
 use Rattle.monitor.proofs.Asking.{some-eq, none-some, turn-its, target-of, Way, refuses, forwards, blames, way}
+use Rattle.table.specs.Table as T
+use Rattle.table.specs.declared.Table as D
 
 -- ---- what verdicts and type say, of two lists in a row
 

@@ -10,7 +10,6 @@ use lib.ListN.{length, getD, take, length-append, List·getD-append}
 use lib.Seq.{take-append-le, take-append-seam}
 use lib.Dec.{leb, eqb}
 use borrow.Author.Tests.{eq-eqb, ne-eqb, eqb-true, le-leb, lt-leb, leb-true}
-use denote.Ref.{RefT, ptr, now}
 use Rattle.table.specs.Table.{legal-label, sort}
 use Rattle.table.specs.View.{view, sortOf}
 use Rattle.table.specs.declared.Table.{Table}
@@ -22,9 +21,10 @@ use Rattle.message.proofs.Reading.{Whole, whole-parts, parts-whole, cut-values,
 use Rattle.monitor.specs.declared.Party.{Party}
 use Rattle.monitor.specs.declared.Party.the-variants.{Device, Host}
 use Rattle.monitor.specs.declared.State.{State}
-use Rattle.monitor.specs.Step.{speaker, is-party, first-no, of-state, asked}
+use Rattle.monitor.specs.Step.{speaker, first-no, of-state, asked}
 use Rattle.monitor.specs.Due.{awaited, first-length, due-at, due}
 use Rattle.monitor.proofs.Asking.{none-some, turn-its, opened, formed-then, asked-then}
+use denote.Ref.{RefT}
 
 -- ---- whose turn it is
 

@@ -1,16 +1,14 @@
 -- Whole conversations, and what demand 2 asks of every message in them.
 -- Assumes nothing.
-use Prim.Native.Nat.{ℕ, _≤_}
 use mathlib.Core.Path.{_≡_}
 use mathlib.Core.Logic.{_↔_}
 use mathlib.Core.Bool.{Bool, true, false, cond}
 use mathlib.Core.List.{List, [], _∷_, _++_, map}
 use mathlib.Core.Option.{Option, none, some}
+use Prim.Native.Nat.{ℕ, _≤_}
 use lib.ListN.{length}
 use lib.Dec.{leb}
-use Rattle.table.specs.Table as T
 use Rattle.table.specs.View.{view, soundOf}
-use Rattle.table.specs.declared.Table as D
 use Rattle.message.specs.Message.{Message, read, whole, legal-values, exact, well-formed}
 use Rattle.message.specs.Judge.{allows, judge}
 use Rattle.message.specs.Make.{opening}
@@ -20,6 +18,8 @@ use Rattle.monitor.specs.declared.Standing.the-variants.{Running}
 use Rattle.monitor.specs.declared.State.{State}
 use Rattle.monitor.specs.declared.Stepped.{Stepped}
 use Rattle.monitor.specs.Step.{fresh, blame, speaker, is-party, first-no, Told, refused, blamed, forwarded, reason, outside, Stepping, refusing, stepping, stepped}
+use Rattle.table.specs.Table as T
+use Rattle.table.specs.declared.Table as D
 
 -- ---- a conversation
 

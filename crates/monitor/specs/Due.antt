@@ -1,12 +1,11 @@
 -- The due message (document 01): the part of either side's waiting bytes that is handed back.
 -- Assumes nothing.
-use Prim.Native.Nat.{ℕ}
 use mathlib.Core.Bool.{_&&_, cond}
 use mathlib.Core.List.{List}
 use mathlib.Core.Option.{Option, none, some}
+use Prim.Native.Nat.{ℕ}
 use lib.ListN.{length, take}
 use lib.Dec.{leb, eqb}
-use denote.Ref.{RefT, ptr, now}
 use Rattle.table.specs.Table.{sort}
 use Rattle.table.specs.View.{view}
 use Rattle.table.specs.declared.Table.{Table}
@@ -15,8 +14,9 @@ use Rattle.monitor.specs.declared.Party.{Party}
 use Rattle.monitor.specs.declared.Party.the-variants.{Device, Host}
 use Rattle.monitor.specs.declared.State.{State}
 use Rattle.monitor.specs.declared.Turn.{Turn}
-use Rattle.monitor.specs.declared.Turn.the-variants as Turns
 use Rattle.monitor.specs.Step.{first-no, of-state, speaker}
+use denote.Ref.{RefT, ptr, now}
+use Rattle.monitor.specs.declared.Turn.the-variants as Turns
 
 -- what can be said of a slice: where it begins, which is a block of memory and an offset in it, and its bytes
 abbrev pub Seen : Type 0

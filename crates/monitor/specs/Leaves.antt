@@ -1,9 +1,9 @@
 -- What the inner functions say of lent columns. It need not be believed: the laws tie it to the other files.
 -- Assumes nothing.
-use Prim.Native.Nat.{ℕ, _+_, _*_, _≤_, _<_}
 use mathlib.Core.Path.{_≡_}
 use mathlib.Core.Bool.{Bool, true, false, _&&_}
 use mathlib.Core.List.{List, []}
+use Prim.Native.Nat.{ℕ, _+_, _*_, _≤_, _<_}
 use lib.ListN.{getD}
 use lib.Dec.{leb, eqb}
 use Rattle.table.specs.Lists.{upto}

@@ -1,9 +1,9 @@
 -- One step of the monitor (document 01): the questions, then the judgement.
 -- Assumes nothing.
-use Prim.Native.Nat.{ℕ}
 use mathlib.Core.Bool.{Bool, true, false, cond}
 use mathlib.Core.List.{List, [], _∷_, _++_}
 use mathlib.Core.Option.{Option, none, some}
+use Prim.Native.Nat.{ℕ}
 use lib.ListN.{length}
 use lib.Dec.{leb, eqb}
 use Rattle.table.specs.Table.{Sort, ends, sends, receives, is-choice, sort}

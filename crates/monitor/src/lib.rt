@@ -1,4 +1,7 @@
-// One step of the monitor (document 01), the due part, and the step over a lent state.
+// The monitor of document 01: one step by value, the same step over a lent state, and the due part of the bytes that wait.
+// Over every conversation from a fresh state a message is forwarded, unchanged, exactly when nobody is blamed before it, it is its
+// side's turn, it is well formed, the output holds it and the protocol allows it where the forwarded ones before it lead
+// (proofs/Demand).
 // A refusal carries its question's number and leaves state and output as they were. A blame is for ever. Every call takes any
 // table and asks question 9 of it.
 ghost use mathlib.Core.Path.{_≡_};

@@ -146,12 +146,12 @@ label-eq a b l m e = bytes-eq 8 a b l m at
     at (suc (suc (suc (suc (suc (suc (suc zero))))))) h = p 0
     at (suc (suc (suc (suc (suc (suc (suc (suc i)))))))) h = absurd (omega arith)
 
-choice-code : (s : ℕ) → is-choice (sortOf s) ≡ true → s ≡ 0 → ⊥
+pub choice-code : (s : ℕ) → is-choice (sortOf s) ≡ true → s ≡ 0 → ⊥
 unfolding sortOf is-choice
 choice-code zero e z = false≢true e
 choice-code (suc s) e z = absurd (omega arith)
 
-code-choice : (s : ℕ) → (s ≡ 0 → ⊥) → is-choice (sortOf s) ≡ true
+pub code-choice : (s : ℕ) → (s ≡ 0 → ⊥) → is-choice (sortOf s) ≡ true
 unfolding sortOf is-choice
 code-choice zero n = absurd (n refl)
 code-choice (suc zero) n = refl

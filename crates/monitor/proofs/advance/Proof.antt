@@ -1,5 +1,5 @@
 -- `monitor::advance` meets its contract: a walk of its MIR, by hand. The borrow of the state is opened, the state is copied out and passed to `step` with the rest, the state of the answer is stored over the old one, and the borrow is closed at it.
--- All that the proof knows of `step` is that it meets its contract. `out` goes to it at its own lifetime, share and name, for good; of `msg`, which is Copy, one copy goes and one is kept for the exit; a token of each lifetime comes back.
+-- All that the proof knows of `step` is that it meets its contract. `out` goes to it at its own lifetime, share and name, for good; of `message`, which is Copy, one copy goes and one is kept for the exit; a token of each lifetime comes back.
 -- Every type held by value owns only facts, so what it owns is made anew where it is asked (`owned`). Assumes nothing.
 use mathlib.Core.Path.{_≡_, refl, ap}
 use mathlib.Core.List.{[], _∷_, List}
@@ -131,7 +131,7 @@ module _ {M : Type 1} (𝓤 : URA M) (H : Heap 𝓤) (A : Atoms 𝓤) (W : Given
       suffices ! _ (ends-at 𝓤 H A f.ended stayed (f.clauses 𝓤 H A at-mem run) W (((κ₀, (κ₁, (κ₂, tt))), (q₀, (q₁, (q₂, tt))), tt, a, at), tt) (EL.val J.the-type J′.the-laws (r .verdict)) (r .verdict) (tt, (r .state, (tt, (tt, (zs, tt))))) (tt, (tt, (tt, (tt, (l, tt)))))) $
       says ! e $
       move ! (2 ∷ 3 ∷ []) $ join ! $ frame ! $
-      -- [obs; the borrow; the last list of out; what msg owns]
+      -- [obs; the borrow; the last list of out; what message owns]
       nothing ! $ move ! (3 ∷ 0 ∷ []) $ fjoin ! $ move ! (3 ∷ 0 ∷ []) $ fjoin ! $ owned ! P.the-row (Is P.the-row) (EL.makes P.the-type P′.the-plain 𝓤 H A) sd _ is-sd $ fjoin ! $
       feqI ! (List Val) (vptr b o ∷ []) (vptr b o ∷ []) refl $ move ! (0 ∷ 2 ∷ 3 ∷ []) $ fjoin3 ! $ fjoin ! $ owned ! B.the-row (Is B.the-row) (LL.makes B.the-type B′.the-plain 𝓤 H A) t _ is-t $ fjoin ! $
       owned ! J.the-row (Is J.the-row) (EL.makes J.the-type J′.the-plain 𝓤 H A) (r .verdict) _ is-v $ move ! (1 ∷ 0 ∷ []) $ done !
@@ -154,27 +154,27 @@ module _ {M : Type 1} (𝓤 : URA M) (H : Heap 𝓤) (A : Atoms 𝓤) (W : Given
         move ! (21 ∷ []) $ fsplit ! $ drop ! $ fsplit ! $ fsplit3 ! $ drop ! $ move ! (2 ∷ []) $ fsplit ! $ drop ! $ fsplit ! $ move ! (1 ∷ []) $ fsplit ! $ move ! (25 ∷ []) $ split ! $ move ! (5 ∷ 6 ∷ 0 ∷ []) $
         opens ! tt S.the-row {h = h} b o (λ vs. spelt ! S.the-row (Is S.the-row) (shows 𝓤 H A S.the-row) svals (LL.tells S.the-type S′.the-laws) fullShare h vs b o $
         move ! (1 ∷ []) $ peeks ! S.the-row (Is S.the-row) (shows 𝓤 H A S.the-row) h (svals h) (λ is-h. move ! (1 ∷ 0 ∷ []) $
-        -- [the state's cell; what it owns; the open borrow; obs; auth; the tokens for `step`; what out owns; true; what msg owns; _9; …; _8; …; _7; …; _6; …; _5; …; _4; …; _3; …; _2; …; _1; …; room for _0; …]
+        -- [the state's cell; what it owns; the open borrow; obs; auth; the tokens for `step`; what out owns; true; what message owns; _9; …; _8; …; _7; …; _6; …; _5; …; _4; …; _3; …; _2; …; _1; …; room for _0; …]
         assigns ! (of-opd ! (load ! (from ! (hop ! (look ! 23 refl) (stop !))) (look-raw ! 0 refl))) (from ! (stop !)) (init ! 13 refl (LL.lawful S.the-type S′.the-laws 𝓤 H A W .typed h _ is-h .0)) $
         assigns ! (addr ! (from ! (fld ! refl (hop ! (look-in ! 17 (sub ! 0 refl (whole !))) (stop !))))) (from ! (stop !)) (init ! 11 refl (tt, tt)) $
         assigns ! (agg ! (and-then ! (load ! (from ! (stop !)) (look ! 11 refl)) (and-then ! (load ! (from ! (fld ! refl (stop !))) (look-in ! 17 (sub ! 1 refl (whole !)))) (no-more !)))) (from ! (stop !)) (init ! 9 refl (mut-slice-lawful 𝓤 H A W (named 2) κ₂ u8 .typed y _ is-y .0)) $
-        -- msg's borrow is copied, and `step` is called
+        -- message's borrow is copied, and `step` is called
         move ! (8 ∷ []) $ use1 W (‵ own-x ⊛ ‵ own-x) (shr-slice-copy 𝓤 H A W (named 1) κ₁ u8 .twice x (slice-vals x)) $ split ! $ move ! (7 ∷ 0 ∷ 8 ∷ []) $ use3 W (raw (StepC 𝓤 H A at-mem run .pre to-step)) (goes-step is-h) $
-        -- [what `step` asks; what msg owns; the state's cell; what it owns; the open borrow; obs; auth; true; _9; …]
+        -- [what `step` asks; what message owns; the state's cell; what it owns; the open borrow; obs; auth; true; _9; …]
         calls-at ! fm (StepC 𝓤 H A at-mem run) known to-step (and-then ! (load ! (from ! (stop !)) (look ! 24 refl)) (and-then ! (load ! (from ! (stop !)) (look ! 12 refl)) (and-then ! (load ! (from ! (stop !)) (look ! 20 refl)) (and-then ! (load ! (from ! (stop !)) (look ! 18 refl)) (and-then ! (load ! (from ! (stop !)) (look ! 8 refl)) (no-more !)))))) (λ u.
         use1 W (later (some (λ (r : Stepped). ((‵ (flft κ₁ q₁) ⊛ ‵ (flft κ₂ q₂) ⊛ ‵ ftrue) ⊛ ‵ (R.the-row .own r (u ∷ []))) ⊛ raw (ensured 𝓤 H A step.ended (step.clauses 𝓤 H A at-mem run) (κ₁, (κ₂, tt)) to-args tt r)))) (id⊢ 𝓤 _) $ await ! tt $ pick ! (λ r.
         -- what `step` ensures, at some last list of out
         split ! $ move ! (1 ∷ []) $ use1 W (some (λ (ws : Unit {0} × (Unit {0} × (Unit {0} × (Unit {0} × (List ℕ × Unit {0}))))). ‵ (lasts step.ended (κ₁, (κ₂, tt)) to-args ws) ⊛ raw (fact 𝓤 (Does r (ws .1 .1 .1 .1 .0))))) (id⊢ 𝓤 _) $ pick ! (λ ws.
         split ! $ move ! (1 ∷ []) $ heard ! (Does r (ws .1 .1 .1 .1 .0)) (λ e. fsplit ! $ drop ! $ fsplit ! $ drop ! $ fsplit ! $ drop ! $ fsplit ! $ drop ! $ fsplit ! $ fsplit ! $ move ! (1 ∷ []) $ feqL ! (λ l.
-        -- [the last list; true; the tokens and the result; what msg owns; the state's cell; what it owns; the open borrow; obs; auth; true; _9; …]
+        -- [the last list; true; the tokens and the result; what message owns; the state's cell; what it owns; the open borrow; obs; auth; true; _9; …]
         move ! (2 ∷ []) $ split ! $ move ! (1 ∷ []) $ peeks ! R.the-row (Is R.the-row) (shows 𝓤 H A R.the-row) r (u ∷ []) (λ is.
         land ! (from ! (stop !)) (init ! 17 refl (LL.lawful R.the-type R′.the-laws 𝓤 H A W .typed r _ is .0)) $ rewrite ! 17 (λ (v : Val). ‵ (fat fullShare R′.mir l₆ 0 v)) (ap only (LL.tells R.the-type R′.the-laws r (u ∷ []) is)) refl $
-        -- [what the result owns; the tokens; the last list; true; what msg owns; the state's cell; what it owns; the open borrow; obs; auth; true; _9; …]
+        -- [what the result owns; the tokens; the last list; true; what message owns; the state's cell; what it owns; the open borrow; obs; auth; true; _9; …]
         assigns ! (of-opd ! (load ! (from ! (fld ! refl (stop !))) (look-in ! 17 (sub ! 0 refl (whole !))))) (from ! (hop ! (look ! 25 refl) (stop !))) (store-raw ! 5 refl (LL.lawful S.the-type S′.the-laws 𝓤 H A W .typed (r .state) _ (state-is r u is) .0)) $
         assigns ! (of-opd ! (load ! (from ! (fld ! refl (stop !))) (look-in ! 17 (sub ! 1 refl (whole !))))) (from ! (stop !)) (init ! 29 refl (EL.lawful J.the-type J′.the-laws 𝓤 H A W tt .typed (r .verdict) _ (verdict-is r u is) .0)) $
         -- the borrow of the state is closed at the new state
         move ! (6 ∷ []) $ drop ! $ owned ! S.the-row (Is S.the-row) (LL.makes S.the-type S′.the-plain 𝓤 H A) (r .state) _ (state-is r u is) $ move ! (6 ∷ 0 ∷ 7 ∷ 8 ∷ 9 ∷ []) $ closes ! tt S.the-row (r .state) (svals (r .state)) b o $
-        -- [obs; the borrow; its token; what the result owns; the other tokens; the last list; true; what msg owns; true; _9; …]
+        -- [obs; the borrow; its token; what the result owns; the other tokens; the last list; true; what message owns; true; _9; …]
         returns ! (look ! 27 refl) $ forget ! 9 refl $ forget ! 11 refl $ forget ! 13 refl $ forget ! 15 refl $ forget ! 17 refl $ forget ! 19 refl $ forget ! 21 refl $ forget ! 23 refl $ forget ! 25 refl $ forget ! 27 refl $
         move ! (27 ∷ 28 ∷ []) $ free1 ! $ move ! (25 ∷ 26 ∷ []) $ free1 ! $ move ! (23 ∷ 24 ∷ []) $ free1 ! $ move ! (21 ∷ 22 ∷ []) $ free1 ! $ move ! (19 ∷ 20 ∷ []) $ free1 ! $ move ! (17 ∷ 18 ∷ []) $ free1 ! $ move ! (15 ∷ 16 ∷ []) $ free1 ! $ move ! (13 ∷ 14 ∷ []) $ free1 ! $ move ! (11 ∷ 12 ∷ []) $ free1 ! $ move ! (9 ∷ 10 ∷ []) $ free1 ! $ free0 ! $
         keep ! (0 ∷ 1 ∷ 2 ∷ 4 ∷ 5 ∷ 7 ∷ []) $ by ! (exits r (ws .1 .1 .1 .1 .0) e l (verdict-is r u is))))))))))))))))))))

@@ -11,8 +11,6 @@ use Rattle.monitor.specs.Leaves.{named}
 use Rattle.monitor.proofs.Leaves.{named-yes, named-other-label, named-other-owner}
 use Rattle.monitor.proofs.judge.find.Statement.{statement}
 use Rattle.monitor.proofs.judge.find.Tie as tie
-use Rattle.monitor.proofs.judge.find.Reads as reads
-use Rattle.monitor.proofs.judge.find.Lts as lts
 
 abbrev Inv-loop : tie.InvT-loop
 Inv-loop owner label n position word k₀ k =

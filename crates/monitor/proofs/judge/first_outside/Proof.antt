@@ -1,5 +1,5 @@
 -- `monitor::judge::first_outside` meets its contract: every field passed is inside its range. Assumes nothing.
-use mathlib.Core.Path.{_≡_, refl, ap, _∙_}
+use mathlib.Core.Path.{_≡_, ap, _∙_}
 use mathlib.Core.Bool.{false, not}
 use Prim.Native.Nat.{ℕ, _+_, _*_, _-_, _≤_, _<_}
 use native.Mathlib.Omega.{arith}
@@ -10,8 +10,6 @@ use Rattle.monitor.specs.Leaves.{inside}
 use Rattle.monitor.proofs.Leaves.{below-range, above-range, within-range}
 use Rattle.monitor.proofs.judge.first_outside.Statement.{statement}
 use Rattle.monitor.proofs.judge.first_outside.Tie as tie
-use Rattle.monitor.proofs.judge.first_outside.Reads as reads
-use Rattle.monitor.proofs.judge.first_outside.Lts as lts
 
 abbrev Inv-loop : tie.InvT-loop
 Inv-loop low high at count message numbers f₀ f =

@@ -1,5 +1,5 @@
 -- `monitor::judge::judge` meets its contract: one law for each return. Assumes nothing.
-use mathlib.Core.Path.{_≡_, sym, subst, _∙_}
+use mathlib.Core.Path.{sym, subst, _∙_}
 use Prim.Native.Nat.{ℕ, _<_}
 use native.Mathlib.Omega.{arith}
 use lib.ListN.{getD}
@@ -11,8 +11,6 @@ use Rattle.monitor.specs.Leaves.{judgement, named, First}
 use Rattle.monitor.proofs.ByPlaces.{no-label-here, other-count, other-kinds-here, outside-here, allowed-here}
 use Rattle.monitor.proofs.judge.judge.Statement.{statement}
 use Rattle.monitor.proofs.judge.judge.Tie as tie
-use Rattle.monitor.proofs.judge.judge.Reads as reads
-use Rattle.monitor.proofs.judge.judge.Lts as lts
 
 returns : tie.Need-returns
 unfolding judgement

@@ -11,8 +11,6 @@ use Rattle.monitor.specs.Leaves.{kind-is}
 use Rattle.monitor.proofs.Leaves.{kind-yes, kind-no}
 use Rattle.monitor.proofs.judge.same_kinds.Statement.{statement}
 use Rattle.monitor.proofs.judge.same_kinds.Tie as tie
-use Rattle.monitor.proofs.judge.same_kinds.Reads as reads
-use Rattle.monitor.proofs.judge.same_kinds.Lts as lts
 
 abbrev Inv-loop : tie.InvT-loop
 Inv-loop kind at count message f₀ f =
