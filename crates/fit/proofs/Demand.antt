@@ -1,13 +1,12 @@
 -- Demand 3: a description fits exactly when no list of moves ends badly, and an answer that is `Answered` says which.
 -- Assumes nothing.
-use Prim.Native.Nat.{ℕ}
 use mathlib.Core.Path.{_≡_, refl, sym, _∙_}
 use mathlib.Core.Logic.{⊎-elim, _↔_}
 use mathlib.Core.List.{List}
 use mathlib.Core.Option.{Option}
+use Prim.Native.Nat.{ℕ}
 use native.Mathlib.Omega.{arith}
 use lib.ListN.{length}
-use Rattle.table.specs.declared.Table as D
 use Rattle.table.specs.View.{view}
 use Rattle.table.specs.Table.{Table}
 use Rattle.fit.specs.Machine.{Move, fresh, after}
@@ -17,6 +16,7 @@ use Rattle.table.proofs.Lists.{never, decided}
 use Rattle.fit.proofs.Sound.{Sound}
 use Rattle.fit.proofs.Safe.{fits-safe}
 use Rattle.fit.proofs.Shown.{wrong-ends}
+use Rattle.table.specs.declared.Table as D
 
 -- on the machine's side
 pub fits-exactly : (d p : Table) → Sound d → Sound p → Fits d p ↔ Safe d p
