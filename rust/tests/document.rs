@@ -124,6 +124,15 @@ fn a_name_that_outlives_its_rec() {
 }
 
 #[test]
+fn what_is_closed_no_longer_counts_as_open() {
+    let labels: Vec<String> = (0..20).map(|i| format!("B{i}")).collect();
+    let recs: Vec<String> = labels.iter().map(|label| format!("!{label}().rec X.end")).collect();
+    assert_eq!(table(format!("+{{{}}}", recs.join(",")).as_bytes()).states.len(), 21);
+    let choices: Vec<String> = labels.iter().map(|label| format!("!{label}().+{{!A().R}}")).collect();
+    assert_eq!(table(format!("rec R.+{{{}}}", choices.join(",")).as_bytes()).branches.len(), 40);
+}
+
+#[test]
 fn the_longest_text() {
     let mut text = b"end".to_vec();
     text.resize(8192, b' ');
