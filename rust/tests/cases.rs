@@ -4,6 +4,7 @@
 //! too), double-quoted text stands for its bytes. The files are those of `../crates/cases/data`; where one is not there it is
 //! looked for in the directories of the variable `CASES`, separated by colons, and passed over when it is nowhere.
 
+use sojimu::second::brute::explore;
 use sojimu::second::fit::{fit, shows_no_fit, Answer};
 use sojimu::second::message;
 use sojimu::second::monitor::{due, step, Side, Standing, State, Verdict};
@@ -299,7 +300,16 @@ fn fit_answer(given: &[u64]) -> Vec<u64> {
     let device = text::read(&bytes(parts[0])).unwrap_or_default();
     let protocol = text::read(&bytes(parts[1])).unwrap_or_default();
     let mut list = vec![UNTOUCHED_ENTRY; parts[2][0] as usize];
-    let mut numbers = match fit(&device, &protocol, &mut list) {
+    let answer = fit(&device, &protocol, &mut list);
+    if device.branches.len() + protocol.branches.len() <= 20 {
+        let found = explore(&device, &protocol);
+        match answer {
+            Answer::Refused(_) => {}
+            Answer::Fits(pairs) => assert!(found.safe && found.pairs == pairs),
+            Answer::NoFit(moves, _) => assert!(!found.safe && found.fewest == moves),
+        }
+    }
+    let mut numbers = match answer {
         Answer::Refused(question) => vec![0, question.into(), NO_FIELD],
         Answer::Fits(pairs) => vec![1, pairs as u64, NO_FIELD],
         Answer::NoFit(moves, high) => {
