@@ -1,0 +1,146 @@
+//! Pairs of related tables and texts for the fit check.
+
+use super::tables::branch_for;
+use super::texts::STRANGE_TOKENS;
+use super::{fields, joined, label, number_of, sound_table, tokens, Limits, Random, LABELS};
+use crate::second::table::{sound, Branch, Sort, Table, MOST_BRANCHES, MOST_FIELDS, MOST_STATES};
+use crate::second::text::{read, LONGEST_PROTOCOL};
+
+/// A device that fits whenever this one does: a range that it sends narrower, one that it takes wider, a branch that it sends
+/// less, one that it takes more, or a state written twice.
+pub fn fitting_change(random: &mut Random, device: &Table) -> Table {
+    let mut table = device.clone();
+    if table.branches.is_empty() {
+        return table;
+    }
+    let b = random.below(table.branches.len());
+    let owner = table.branches[b].owner;
+    let sends = table.states[owner] == Sort::Sends;
+    match random.below(4) {
+        0 | 1 if !table.branches[b].fields.is_empty() => {
+            let f = random.below(table.branches[b].fields.len());
+            let field = &mut table.branches[b].fields[f];
+            let number = number_of(random, field.kind);
+            if !sends {
+                field.low = field.low.min(number);
+                field.high = field.high.max(number);
+            } else if field.holds(number) && random.one_in(2) {
+                field.low = number;
+            } else if field.holds(number) {
+                field.high = number;
+            } else {
+                field.high = field.low;
+            }
+        }
+        2 if sends && table.branches_of(owner).len() > 1 => {
+            table.branches.remove(b);
+        }
+        2 if !sends && table.branches.len() < MOST_BRANCHES => {
+            let new = branch_for(random, &table, owner);
+            let place = random.below(table.branches.len() + 1);
+            table.branches.insert(place, new);
+        }
+        _ => {
+            let target = table.branches[b].target;
+            let copies: Vec<Branch> = table.branches_of(target).into_iter().map(|c| table.branches[c].clone()).collect();
+            if table.states.len() < MOST_STATES && table.branches.len() + copies.len() <= MOST_BRANCHES {
+                let new = table.states.len();
+                table.states.push(table.states[target]);
+                table.branches.extend(copies.into_iter().map(|copy| Branch { owner: new, ..copy }));
+                table.branches[b].target = new;
+            }
+        }
+    }
+    table
+}
+
+/// A sound table that differs from this one in one thing, whether it then fits or not. Now and then it is the same.
+pub fn changed(random: &mut Random, table: &Table) -> Table {
+    for _ in 0..20 {
+        let mut new = table.clone();
+        let state = random.below(new.states.len());
+        if new.branches.is_empty() {
+            return new;
+        }
+        let b = random.below(new.branches.len());
+        let f = random.below(new.branches[b].fields.len());
+        match random.below(10) {
+            0..=2 => {
+                if let Some(field) = new.branches[b].fields.get_mut(f) {
+                    match random.below(4) {
+                        0 => field.low -= 1,
+                        1 => field.low += 1,
+                        2 => field.high -= 1,
+                        _ => field.high += 1,
+                    }
+                }
+            }
+            3 => new.branches[b].fields = fields(random, MOST_FIELDS),
+            4 => new.branches[b].label = label(random, &[]),
+            5 => new.branches[b].target = random.below(new.states.len()),
+            6 => new.states[state] = *random.pick(&[Sort::End, Sort::Sends, Sort::Receives]),
+            7 => new.branches[b].owner = state,
+            8 => {
+                new.branches.remove(b);
+            }
+            _ => {
+                let branch = branch_for(random, &new, state);
+                new.branches.insert(b, branch);
+            }
+        }
+        if sound(&new) {
+            return new;
+        }
+    }
+    table.clone()
+}
+
+/// A device's table and a protocol's, related: the device comes from the protocol by fitting changes and, half of the time, one or
+/// two of any sort. Now and then the two have nothing to do with one another.
+pub fn table_pair(random: &mut Random, most_states: usize, most_branches: usize) -> (Table, Table) {
+    let protocol = sound_table(random, most_states, most_branches);
+    if random.one_in(12) {
+        return (sound_table(random, most_states, most_branches), protocol);
+    }
+    let mut device = protocol.clone();
+    for _ in 0..random.below(4) {
+        device = fitting_change(random, &device);
+    }
+    if random.one_in(2) {
+        for _ in 0..1 + random.below(2) {
+            device = changed(random, &device);
+        }
+    }
+    (device, protocol)
+}
+
+/// The texts of a device and of a protocol, related: the device's is the protocol's with a few tokens changed, and is still read.
+pub fn text_pair(random: &mut Random) -> (Vec<u8>, Vec<u8>) {
+    let protocol = loop {
+        let limits = Limits::any(random);
+        let tokens = tokens(random, limits);
+        if joined(random, &tokens).len() <= LONGEST_PROTOCOL / 2 {
+            break tokens;
+        }
+    };
+    let mut device = protocol.clone();
+    let changes = random.below(4);
+    let mut made = 0;
+    for _ in 0..60 {
+        if made == changes {
+            break;
+        }
+        let mut new = device.clone();
+        let place = random.below(new.len());
+        new[place] = match new[place].first() {
+            Some(byte) if byte.is_ascii_digit() || *byte == b'-' => random.between(-2, 101).to_string().into_bytes(),
+            Some(byte) if byte.is_ascii_uppercase() => random.pick(&LABELS).to_vec(),
+            _ => random.pick(&STRANGE_TOKENS).to_vec(),
+        };
+        if new[place] != device[place] && read(&joined(random, &new)).is_ok() {
+            device = new;
+            made += 1;
+        }
+    }
+    (joined(random, &device), joined(random, &protocol))
+}

@@ -1,0 +1,149 @@
+//! Tables: sound, damaged in one entry, and any.
+
+use super::{fields, label, Random};
+use crate::second::table::{Branch, Label, Raw, Sort, Table, LABEL_BYTES, MOST_BRANCHES, MOST_FIELDS, MOST_STATES};
+
+/// A sound table of at most so many states (1 to 32) and branches (0 to 128). Owners and targets are any, as no text has them.
+/// State 0 is seldom an end.
+pub fn sound_table(random: &mut Random, most_states: usize, most_branches: usize) -> Table {
+    table_with_ends(random, most_states, most_branches, 5)
+}
+
+/// A sound table of choices alone, for conversations of any length; but for ends where the branches are fewer than the states.
+pub fn endless_table(random: &mut Random, most_states: usize, most_branches: usize) -> Table {
+    table_with_ends(random, most_states, most_branches, 0)
+}
+
+/// A sound table in which one state in `ends` is an end; none when it is 0.
+fn table_with_ends(random: &mut Random, most_states: usize, most_branches: usize, ends: usize) -> Table {
+    let count = 1 + random.below(most_states.clamp(1, MOST_STATES));
+    let most_branches = most_branches.min(MOST_BRANCHES);
+    let mut choices = Vec::new();
+    let mut table = Table::empty();
+    for state in 0..count {
+        let end = ends > 0 && random.one_in(ends) && (state > 0 || random.one_in(4));
+        if !end && choices.len() < most_branches {
+            choices.push(state);
+            table.states.push(*random.pick(&[Sort::Sends, Sort::Receives]));
+        } else {
+            table.states.push(Sort::End);
+        }
+    }
+    let mut owners = choices.clone();
+    if !choices.is_empty() {
+        let more = match random.below(8) {
+            0 => most_branches,
+            1 => 0,
+            _ => random.below(2 * choices.len() + 1),
+        };
+        while owners.len() < most_branches.min(choices.len() + more) {
+            owners.push(*random.pick(&choices));
+        }
+    }
+    random.shuffle(&mut owners);
+    for owner in owners {
+        let new = branch_for(random, &table, owner);
+        table.branches.push(new);
+    }
+    table
+}
+
+/// A branch for a state of the table, with a label that is new there.
+pub(super) fn branch_for(random: &mut Random, table: &Table, owner: usize) -> Branch {
+    let labels: Vec<Label> = table.branches_of(owner).into_iter().map(|b| table.branches[b].label).collect();
+    Branch {
+        owner,
+        label: label(random, &labels),
+        fields: fields(random, MOST_FIELDS),
+        target: random.below(table.states.len()),
+    }
+}
+
+/// The columns of a raw table, by number: states, branches, sort, owner, target, fields, label, kind, low, high.
+pub const COLUMNS: usize = 10;
+
+/// The raw table with one entry of a column changed, to a number that is telling there, mostly of an entry that counts. What
+/// comes out is mostly, not always, unsound.
+pub fn damaged_table(random: &mut Random, raw: &Raw, column: usize) -> Raw {
+    let mut raw = raw.clone();
+    let states = usize::from(raw.states).min(MOST_STATES);
+    let branches = usize::from(raw.branches).min(MOST_BRANCHES);
+    let state = entry(random, states, MOST_STATES);
+    let branch = entry(random, branches, MOST_BRANCHES);
+    let count = usize::from(raw.fields[branch]).min(MOST_FIELDS);
+    let place = MOST_FIELDS * branch + entry(random, count, MOST_FIELDS);
+    let small = [0, 1, 2, 3, 4, 5, 31, 32, 33, 64, 127, 128, 129, 254, 255];
+    let near = |random: &mut Random, number: u8| match random.below(3) {
+        0 => number.wrapping_add(1),
+        1 => number.wrapping_sub(1),
+        _ => *random.pick(&small),
+    };
+    match column {
+        0 => raw.states = near(random, raw.states),
+        1 => raw.branches = near(random, raw.branches),
+        2 => raw.sort[state] = near(random, raw.sort[state]),
+        3 => raw.owner[branch] = near(random, raw.owner[branch]),
+        4 => raw.target[branch] = *random.pick(&[raw.states, raw.states.wrapping_sub(1), 0, 31, 32, 255]),
+        5 => raw.fields[branch] = near(random, raw.fields[branch]),
+        6 => {
+            let mut label = raw.label[branch].to_be_bytes();
+            match random.below(3) {
+                0 => label[random.below(LABEL_BYTES)] = *random.pick(b"\0@AZ[`az{/09: \x01\x80\xC1\xFF"),
+                1 => label = raw.label[entry(random, branches, MOST_BRANCHES)].to_be_bytes(),
+                _ => label = random.number().to_be_bytes(),
+            }
+            raw.label[branch] = u64::from_be_bytes(label);
+        }
+        7 => raw.kind[place] = near(random, raw.kind[place]),
+        8 => raw.low[place] = telling_number(random, raw.low[place], raw.high[place]),
+        _ => raw.high[place] = telling_number(random, raw.low[place], raw.high[place]),
+    }
+    raw
+}
+
+/// An entry of those that count, now and then any of the column.
+fn entry(random: &mut Random, count: usize, column: usize) -> usize {
+    if count == 0 || random.one_in(10) {
+        random.below(column)
+    } else {
+        random.below(count)
+    }
+}
+
+/// A number in offset form near the ends of a range or of a kind.
+fn telling_number(random: &mut Random, low: u32, high: u32) -> u32 {
+    let ends = [low, high, 0, 0x7FFF_FFFF, 0x8000_0000, 0x8000_0001, 0x8000_0002, 0x8000_0040, 0x8000_0041, 0xFFFF_FFFF];
+    random.pick(&ends).wrapping_add(random.pick(&[0, 1, u32::MAX]).to_owned())
+}
+
+/// The raw table with anything in the entries beyond its counts, which mean nothing.
+pub fn with_noise(random: &mut Random, raw: &Raw) -> Raw {
+    let mut raw = raw.clone();
+    for state in usize::from(raw.states)..MOST_STATES {
+        raw.sort[state] = random.byte();
+    }
+    for b in 0..MOST_BRANCHES {
+        let counts = b < usize::from(raw.branches);
+        if !counts {
+            raw.owner[b] = random.byte();
+            raw.target[b] = random.byte();
+            raw.fields[b] = random.byte();
+            raw.label[b] = random.number();
+        }
+        let from = if counts { usize::from(raw.fields[b]) } else { 0 };
+        for place in MOST_FIELDS * b + from..MOST_FIELDS * (b + 1) {
+            raw.kind[place] = random.byte();
+            raw.low[place] = random.number() as u32;
+            raw.high[place] = random.number() as u32;
+        }
+    }
+    raw
+}
+
+/// Columns of any numbers: hardly ever sound.
+pub fn any_raw(random: &mut Random) -> Raw {
+    let mut raw = with_noise(random, &Raw::empty());
+    raw.states = random.byte() % 40;
+    raw.branches = random.byte();
+    raw
+}

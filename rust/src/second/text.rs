@@ -1,0 +1,289 @@
+//! Protocol texts: tokens, grammar, and questions 1 to 8 in the order of the document.
+
+use super::table::{Branch, Field, Kind, Label, Sort, Table, LABEL_BYTES, MOST_BRANCHES, MOST_FIELDS, MOST_STATES};
+
+/// The most bytes of a text.
+pub const LONGEST_PROTOCOL: usize = 8192;
+/// The most choices and `rec`s open around one another.
+pub const MOST_OPEN: usize = 16;
+
+/// The question that got a no, and the place of its token.
+pub type Refusal = (u8, usize);
+
+/// Reads a protocol text. A refusal stands for the empty table.
+pub fn read(text: &[u8]) -> Result<Table, Refusal> {
+    if text.len() > LONGEST_PROTOCOL {
+        return Err((1, 0));
+    }
+    let mut reader = Reader { text, at: 0, table: Table::empty(), bound: Vec::new(), open: 0 };
+    reader.read_type(false)?;
+    match reader.token()? {
+        (Token::EndOfText, _) => Ok(reader.table),
+        (_, place) => Err((3, place)),
+    }
+}
+
+#[derive(Clone, Copy, PartialEq, Eq)]
+enum Token<'a> {
+    /// `end rec int text flag`
+    Word(&'a [u8]),
+    /// A name or a label.
+    Name(Label),
+    Number {
+        negative: bool,
+        digits: &'a [u8],
+    },
+    /// `.`
+    Dot,
+    /// `..`
+    Dots,
+    /// One of `+ & { } ( ) [ ] , ! ?`
+    Sign(u8),
+    EndOfText,
+}
+
+struct Reader<'a> {
+    text: &'a [u8],
+    /// Where the next token, or blanks before it, begins.
+    at: usize,
+    table: Table,
+    /// The names of the `rec`s around this place, innermost last, each with the first state of its body.
+    bound: Vec<(Label, usize)>,
+    /// The choices and `rec`s around this place.
+    open: usize,
+}
+
+impl<'a> Reader<'a> {
+    /// The next token and its place; asks 2.
+    fn token(&mut self) -> Result<(Token<'a>, usize), Refusal> {
+        while self.at < self.text.len() && matches!(self.text[self.at], 0x20 | 0x0A) {
+            self.at += 1;
+        }
+        let place = self.at;
+        let Some(&first) = self.text.get(place) else {
+            return Ok((Token::EndOfText, place));
+        };
+        let token = match first {
+            b'A'..=b'Z' => named(self.run(u8::is_ascii_alphanumeric)),
+            b'a'..=b'z' => worded(self.run(u8::is_ascii_alphanumeric)),
+            b'0'..=b'9' => numbered(false, self.run(u8::is_ascii_digit)),
+            b'-' => {
+                self.at += 1;
+                numbered(true, self.run(u8::is_ascii_digit))
+            }
+            b'.' => match self.run(|&byte| byte == b'.').len() {
+                1 => Some(Token::Dot),
+                2 => Some(Token::Dots),
+                _ => None,
+            },
+            b'+' | b'&' | b'{' | b'}' | b'(' | b')' | b'[' | b']' | b',' | b'!' | b'?' => {
+                self.at += 1;
+                Some(Token::Sign(first))
+            }
+            _ => None,
+        };
+        match token {
+            Some(token) => Ok((token, place)),
+            None => Err((2, place)),
+        }
+    }
+
+    /// The longest run of such bytes from here on.
+    fn run(&mut self, such: impl Fn(&u8) -> bool) -> &'a [u8] {
+        let rest = &self.text[self.at..];
+        let length = rest.iter().position(|byte| !such(byte)).unwrap_or(rest.len());
+        self.at += length;
+        &rest[..length]
+    }
+
+    /// The next token, which the grammar wants to be this one; asks 2 and 3.
+    fn expect(&mut self, wanted: Token) -> Result<(), Refusal> {
+        match self.token()? {
+            (token, _) if token == wanted => Ok(()),
+            (_, place) => Err((3, place)),
+        }
+    }
+
+    /// A name or a label and its place; asks 2 and 3.
+    fn expect_name(&mut self) -> Result<(Label, usize), Refusal> {
+        match self.token()? {
+            (Token::Name(name), place) => Ok((name, place)),
+            (_, place) => Err((3, place)),
+        }
+    }
+
+    /// "type: `end`, or a name, or `rec` name `.` type, or `+{` send branches `}`, or `&{` receive branches `}`."
+    /// Gives the first state of the type. `after_rec`: it follows the dot of a `rec`.
+    fn read_type(&mut self, after_rec: bool) -> Result<usize, Refusal> {
+        let (token, place) = self.token()?;
+        match token {
+            Token::Word(b"end") => self.state(Sort::End, place),
+            Token::Name(name) => {
+                let innermost = self.bound.iter().rev().find(|(bound, _)| *bound == name);
+                let &(_, first) = innermost.ok_or((4, place))?;
+                if after_rec {
+                    return Err((5, place));
+                }
+                Ok(first)
+            }
+            Token::Word(b"rec") => {
+                self.open_one(place)?;
+                let (name, _) = self.expect_name()?;
+                self.expect(Token::Dot)?;
+                // No name follows (question 5), so the first state of the body is the next that is numbered.
+                self.bound.push((name, self.table.states.len()));
+                let first = self.read_type(true)?;
+                self.bound.pop();
+                self.open -= 1;
+                Ok(first)
+            }
+            Token::Sign(b'+') => self.choice(Sort::Sends, b'!', place),
+            Token::Sign(b'&') => self.choice(Sort::Receives, b'?', place),
+            _ => Err((3, place)),
+        }
+    }
+
+    /// Question 8 of the states, "counted at `+`, `&` or `end`", and the number of the new one.
+    fn state(&mut self, sort: Sort, place: usize) -> Result<usize, Refusal> {
+        if self.table.states.len() == MOST_STATES {
+            return Err((8, place));
+        }
+        self.table.states.push(sort);
+        Ok(self.table.states.len() - 1)
+    }
+
+    /// Question 8 of "what is open", counted "at `+`, `&` or `rec`".
+    fn open_one(&mut self, place: usize) -> Result<(), Refusal> {
+        if self.open == MOST_OPEN {
+            return Err((8, place));
+        }
+        self.open += 1;
+        Ok(())
+    }
+
+    /// What follows `+` or `&`: `{`, at least one branch, separated by `,`, and `}`.
+    fn choice(&mut self, sort: Sort, mark: u8, place: usize) -> Result<usize, Refusal> {
+        self.open_one(place)?;
+        let owner = self.state(sort, place)?;
+        self.expect(Token::Sign(b'{'))?;
+        loop {
+            self.branch(owner, mark)?;
+            match self.token()? {
+                (Token::Sign(b','), _) => {}
+                (Token::Sign(b'}'), _) => break,
+                (_, place) => return Err((3, place)),
+            }
+        }
+        self.open -= 1;
+        Ok(owner)
+    }
+
+    /// "send branch: `!` label `(` fields `)` `.` type. A receive branch has `?`."
+    fn branch(&mut self, owner: usize, mark: u8) -> Result<(), Refusal> {
+        match self.token()? {
+            (Token::Sign(sign), place) if sign == mark => {
+                if self.table.branches.len() == MOST_BRANCHES {
+                    return Err((8, place));
+                }
+            }
+            (_, place) => return Err((3, place)),
+        }
+        let (label, place) = self.expect_name()?;
+        if self.table.branches.iter().any(|branch| branch.owner == owner && branch.label == label) {
+            return Err((7, place));
+        }
+        self.expect(Token::Sign(b'('))?;
+        let fields = self.fields()?;
+        self.expect(Token::Dot)?;
+        let number = self.table.branches.len();
+        self.table.branches.push(Branch { owner, label, fields, target: 0 });
+        self.table.branches[number].target = self.read_type(false)?;
+        Ok(())
+    }
+
+    /// "fields: none, or one or more separated by `,`", and the `)` after them.
+    fn fields(&mut self) -> Result<Vec<Field>, Refusal> {
+        let mut fields = Vec::new();
+        let (mut token, mut place) = self.token()?;
+        if token == Token::Sign(b')') {
+            return Ok(fields);
+        }
+        loop {
+            let kind = match token {
+                Token::Word(b"int") => Kind::Int,
+                Token::Word(b"text") => Kind::Text,
+                Token::Word(b"flag") => Kind::Flag,
+                _ => return Err((3, place)),
+            };
+            if fields.len() == MOST_FIELDS {
+                return Err((8, place));
+            }
+            fields.push(self.range(kind)?);
+            match self.token()? {
+                (Token::Sign(b','), _) => {}
+                (Token::Sign(b')'), _) => return Ok(fields),
+                (_, place) => return Err((3, place)),
+            }
+            (token, place) = self.token()?;
+        }
+    }
+
+    /// "`[` low `..` high `]`" after the kind's word.
+    fn range(&mut self, kind: Kind) -> Result<Field, Refusal> {
+        self.expect(Token::Sign(b'['))?;
+        let (low, _) = self.number(kind)?;
+        self.expect(Token::Dots)?;
+        let (high, place) = self.number(kind)?;
+        if high < low {
+            return Err((6, place));
+        }
+        self.expect(Token::Sign(b']'))?;
+        Ok(Field { kind, low, high })
+    }
+
+    /// A number within its kind and its place; asks 2, 3 and of 6 "is the number within its kind".
+    fn number(&mut self, kind: Kind) -> Result<(i64, usize), Refusal> {
+        match self.token()? {
+            (Token::Number { negative, digits }, place) => match value(negative, digits) {
+                Some(number) if kind.holds(number) => Ok((number, place)),
+                _ => Err((6, place)),
+            },
+            (_, place) => Err((3, place)),
+        }
+    }
+}
+
+/// "A-Z followed by A-Z, a-z, 0-9, one to eight bytes in all."
+fn named(run: &[u8]) -> Option<Token<'_>> {
+    if run.len() > LABEL_BYTES {
+        return None;
+    }
+    let mut name = [0; LABEL_BYTES];
+    name[..run.len()].copy_from_slice(run);
+    Some(Token::Name(name))
+}
+
+/// "A word that begins in lower case must be one of `end rec int text flag`."
+fn worded(run: &[u8]) -> Option<Token<'_>> {
+    matches!(run, b"end" | b"rec" | b"int" | b"text" | b"flag").then_some(Token::Word(run))
+}
+
+/// "A number is `0`, or digits without a leading zero, with an optional `-` that may not precede `0`."
+fn numbered(negative: bool, digits: &[u8]) -> Option<Token<'_>> {
+    let legal = match digits {
+        [] => false,
+        [b'0'] => !negative,
+        [b'0', ..] => false,
+        _ => true,
+    };
+    legal.then_some(Token::Number { negative, digits })
+}
+
+/// The value of a number of at most ten digits; a longer one is outside every kind.
+fn value(negative: bool, digits: &[u8]) -> Option<i64> {
+    if digits.len() > 10 {
+        return None;
+    }
+    let size = digits.iter().fold(0, |size, digit| 10 * size + i64::from(digit - b'0'));
+    Some(if negative { -size } else { size })
+}

@@ -1,0 +1,308 @@
+//! Random texts, tables, messages and conversations through the second implementation: what the document says of all of them.
+
+use sojimu::second::brute::explore;
+use sojimu::second::fit::{fit, right, shows_no_fit, Answer};
+use sojimu::second::machine::{saying, says};
+use sojimu::second::monitor::{due, judge, step, Side, Standing, State, Verdict};
+use sojimu::second::random::*;
+use sojimu::second::report::report;
+use sojimu::second::table::{dual, sound, Raw, Sort};
+use sojimu::second::{message, text};
+
+/// How many of each; more with the variable `ROUNDS`.
+fn rounds(usual: u64) -> u64 {
+    let more = std::env::var("ROUNDS").ok().and_then(|rounds| rounds.parse().ok()).unwrap_or(1);
+    usual * more
+}
+
+#[test]
+fn legal_texts_are_read() {
+    let (mut states, mut branches, mut longest) = (0, 0, 0);
+    for seed in 0..rounds(3000) {
+        let mut random = Random::new(seed);
+        let text = legal_text(&mut random);
+        let table = text::read(&text).unwrap_or_else(|no| panic!("{no:?}: {}", String::from_utf8_lossy(&text)));
+        assert!(sound(&table));
+        states = states.max(table.states.len());
+        branches = branches.max(table.branches.len());
+        longest = longest.max(text.len());
+    }
+    println!("most states {states}, most branches {branches}, longest {longest}");
+    assert_eq!(states, 32);
+    assert!(branches > 100);
+}
+
+#[test]
+fn blanks_mean_nothing() {
+    for seed in 0..rounds(500) {
+        let mut random = Random::new(seed);
+        let tokens = tokens(&mut random, Limits { states: 8, branches: 12, fields: 4, open: 8 });
+        let (one, other) = (joined(&mut random, &tokens), joined(&mut random, &tokens));
+        assert_eq!(text::read(&one).unwrap(), text::read(&other).unwrap());
+    }
+}
+
+#[test]
+fn texts_of_any_sort() {
+    let mut counts = [0; 9];
+    for seed in 0..rounds(20_000) {
+        let text = any_text(&mut Random::new(seed));
+        match text::read(&text) {
+            Ok(table) => {
+                counts[0] += 1;
+                assert!(sound(&table));
+                assert_eq!(Raw::of(&table).table(), table);
+            }
+            Err((question, place)) => {
+                counts[usize::from(question)] += 1;
+                assert!(place <= text.len());
+            }
+        }
+    }
+    println!("read, and refused by 1 to 8: {counts:?}");
+    assert!(counts.iter().all(|&count| count > 20), "{counts:?}");
+}
+
+#[test]
+fn a_refusal_does_not_look_ahead() {
+    // What follows the token that is refused makes no difference, but for the whole length.
+    for seed in 0..rounds(3000) {
+        let mut random = Random::new(seed);
+        let text = nearly_legal_text(&mut random);
+        if let Err((question, place)) = text::read(&text) {
+            if question == 1 || place == text.len() {
+                continue;
+            }
+            let word = |byte: u8| byte.is_ascii_alphanumeric() || byte == b'.' || byte == b'-';
+            let mut end = place + 1;
+            while end < text.len() && word(text[end]) {
+                end += 1;
+            }
+            assert_eq!(text::read(&text[..end]), Err((question, place)), "{}", String::from_utf8_lossy(&text));
+        }
+    }
+}
+
+#[test]
+fn tables_and_their_columns() {
+    for seed in 0..rounds(1000) {
+        let mut random = Random::new(seed);
+        let table = sound_table(&mut random, 32, 128);
+        assert!(sound(&table));
+        let raw = Raw::of(&table);
+        assert!(raw.sound());
+        assert_eq!(raw.table(), table);
+        assert_eq!(with_noise(&mut random, &raw).table(), table);
+        assert_eq!(dual(&dual(&table).unwrap()).unwrap(), table);
+        assert_eq!(raw.dual().1.dual(), (0, raw.clone()));
+        assert!(raw.sound_at(table.states.len() - 1));
+        assert!(!raw.sound_at(table.states.len()));
+    }
+}
+
+#[test]
+fn damaged_tables() {
+    let mut counts = [[0; 2]; COLUMNS];
+    for seed in 0..rounds(4000) {
+        let mut random = Random::new(seed);
+        let raw = Raw::of(&sound_table(&mut random, 6, 12));
+        for (column, count) in counts.iter_mut().enumerate() {
+            let damaged = damaged_table(&mut random, &raw, column);
+            count[usize::from(damaged.sound())] += 1;
+            if !damaged.sound() {
+                assert_eq!(damaged.dual(), (9, Raw::empty()));
+                assert_eq!(message::make(&damaged.table(), 0, None, &mut [0; 300]), Err(9));
+            }
+        }
+        assert!(!any_raw(&mut random).sound());
+    }
+    println!("unsound and sound, by column: {counts:?}");
+    assert!(counts.iter().all(|count| count[0] > 100 && count[1] > 100), "{counts:?}");
+}
+
+#[test]
+fn messages_of_any_sort() {
+    let mut counts = [0; 16];
+    for seed in 0..rounds(4000) {
+        let mut random = Random::new(seed);
+        let table = sound_table(&mut random, 6, 12);
+        let state = random.below(table.states.len());
+        let bytes = message_for(&mut random, &table, state);
+        match message::read(&bytes) {
+            Ok(message) => {
+                counts[0] += 1;
+                assert_eq!(message.bytes(), bytes);
+                assert_eq!(message.length(), bytes.len());
+                // The reasons of the monitor and the machine's rule agree.
+                assert_eq!(judge(&table, state, &message).ok(), saying(&table, state, &message).map(|branch| branch.target));
+            }
+            Err(question) => counts[usize::from(question)] += 1,
+        }
+        for (b, branch) in table.branches.iter().enumerate() {
+            assert!(says(branch, &spoken(&mut random, branch)));
+            assert!(!says(branch, &reshaped(&mut random, branch)) || !branch.fields.is_empty());
+            let mut buffer = [0xEE; 300];
+            let high = random.below(branch.fields.len() + 1);
+            let high = (high < branch.fields.len()).then_some(high);
+            let length = message::make(&table, b, high, &mut buffer).unwrap();
+            assert!(says(branch, &message::read(&buffer[..length]).unwrap()));
+            assert!(buffer[length..].iter().all(|&byte| byte == 0xEE));
+        }
+    }
+    println!("well formed {}, 13: {}, 14: {}, 15: {}", counts[0], counts[13], counts[14], counts[15]);
+    assert!(counts[0] > 1000 && counts[13] > 50 && counts[14] > 20 && counts[15] > 50);
+}
+
+#[test]
+fn conversations() {
+    let mut refused = [0; 17];
+    let mut blamed = [[0; 4]; 2];
+    let mut forwarded = 0;
+    for seed in 0..rounds(600) {
+        let mut random = Random::new(seed);
+        let table = if random.one_in(4) { sound_table(&mut random, 8, 20) } else { endless_table(&mut random, 8, 20) };
+        let faults = *random.pick(&[0, 4, 20, 100]);
+        let mut state = State::fresh();
+        for turn in conversation(&mut random, &table, 60, faults) {
+            let before = state;
+            let mut output = vec![0xEE; turn.room];
+            let verdict = step(&table, &mut state, turn.side, &turn.message, &mut output);
+            match verdict {
+                Verdict::Refused(question) => {
+                    refused[usize::from(question)] += 1;
+                    assert_eq!(state, before);
+                }
+                Verdict::Blamed(side, reason) => {
+                    blamed[if side == Side::Device { 0 } else { 1 }][usize::from(reason.number())] += 1;
+                    assert_eq!(side, turn.side);
+                    assert_eq!(state.position, before.position);
+                }
+                Verdict::Forwarded => {
+                    forwarded += 1;
+                    let (message, rest) = output.split_at(turn.message.len());
+                    assert_eq!(message, turn.message);
+                    assert!(rest.iter().all(|&byte| byte == 0xEE));
+                    // What was forwarded was due, whatever follows it.
+                    let mut waiting = turn.message.clone();
+                    waiting.extend(random.bytes(5));
+                    let part = match turn.side {
+                        Side::Device => due(&table, &before, &waiting, b""),
+                        Side::Host => due(&table, &before, b"", &waiting),
+                    };
+                    assert_eq!((part.side, part.length), (turn.side, turn.message.len()));
+                }
+            }
+            if verdict != Verdict::Forwarded {
+                assert!(output.iter().all(|&byte| byte == 0xEE));
+            }
+            if faults == 0 {
+                assert_eq!(state.standing, Standing::Running);
+            }
+        }
+    }
+    println!("forwarded {forwarded}, refused {refused:?}, blamed {blamed:?}");
+    assert!(refused[10..].iter().all(|&count| count > 0), "{refused:?}");
+    assert!(blamed.iter().all(|counts| counts[1..].iter().all(|&count| count > 0)), "{blamed:?}");
+}
+
+#[test]
+fn due_parts() {
+    let (mut found, mut nothing) = (0, 0);
+    for seed in 0..rounds(4000) {
+        let mut random = Random::new(seed);
+        let table = sound_table(&mut random, 6, 12);
+        let standing = *random.pick(&[Standing::Running, Standing::Running, Standing::DeviceBlamed, Standing::HostBlamed]);
+        let state = State { position: random.below(table.states.len() + 1), standing };
+        let (device, host) = (waiting(&mut random, &table), waiting(&mut random, &table));
+        let part = due(&table, &state, &device, &host);
+        // The first message is the only beginning of the bytes that 13, 14 and 15 do not refuse.
+        let wanted = match table.states.get(state.position) {
+            Some(Sort::Sends) if standing == Standing::Running => (Side::Device, first_message(&device)),
+            Some(Sort::Receives) if standing == Standing::Running => (Side::Host, first_message(&host)),
+            _ => (Side::Device, 0),
+        };
+        assert_eq!((part.side, part.length), wanted, "seed {seed}");
+        if part.length > 0 {
+            found += 1;
+        } else {
+            nothing += 1;
+        }
+    }
+    println!("due {found}, nothing due {nothing}");
+    assert!(found > 500 && nothing > 500);
+}
+
+fn first_message(bytes: &[u8]) -> usize {
+    (0..=bytes.len()).find(|&length| message::read(&bytes[..length]).is_ok()).unwrap_or(0)
+}
+
+#[test]
+fn the_fit_check_and_the_machine() {
+    let (mut fitting, mut failing, mut moves_at_most, mut highs) = (0, 0, 0, 0);
+    for seed in 0..rounds(3000) {
+        let mut random = Random::new(seed);
+        let (device, protocol) = table_pair(&mut random, 5, 7);
+        let found = explore(&device, &protocol);
+        let product = device.states.len() * protocol.states.len();
+        let room = product + random.below(3);
+        let mut list = vec![0xEEEE; room];
+        match fit(&device, &protocol, &mut list) {
+            Answer::Fits(pairs) => {
+                fitting += 1;
+                assert!(found.safe, "seed {seed}");
+                assert_eq!(pairs, found.pairs, "seed {seed}");
+                assert!(list.iter().all(|&entry| entry == 0xEEEE));
+            }
+            Answer::NoFit(moves, high) => {
+                failing += 1;
+                moves_at_most = moves_at_most.max(moves);
+                highs += usize::from(high.is_some());
+                assert!(!found.safe, "seed {seed}");
+                assert_eq!(moves, found.fewest, "seed {seed}");
+                assert!(shows_no_fit(&device, &protocol, &list[..moves], high), "seed {seed}");
+                assert!(list[moves..].iter().all(|&entry| entry == 0xEEEE));
+            }
+            Answer::Refused(question) => panic!("seed {seed}: {question}"),
+        }
+        assert_eq!(fit(&device, &protocol, &mut vec![0; product - 1]), Answer::Refused(17));
+    }
+    println!("fitting {fitting}, failing {failing}, by at most {moves_at_most} moves, with one high {highs}");
+    assert!(fitting > 500 && failing > 500 && moves_at_most > 2 && highs > 20);
+}
+
+#[test]
+fn fitting_changes_fit() {
+    for seed in 0..rounds(1000) {
+        let mut random = Random::new(seed);
+        let protocol = sound_table(&mut random, 20, 60);
+        let mut device = protocol.clone();
+        for _ in 0..random.below(12) {
+            device = fitting_change(&mut random, &device);
+            assert!(sound(&device));
+        }
+        let mut list = vec![0; 32 * 32];
+        assert!(matches!(fit(&device, &protocol, &mut list), Answer::Fits(_)), "seed {seed}");
+        assert!(right(&device, 0, &protocol, 0));
+    }
+}
+
+#[test]
+fn reports_of_related_texts() {
+    let (mut fitting, mut failing) = (0, 0);
+    for seed in 0..rounds(1000) {
+        let (device, protocol) = text_pair(&mut Random::new(seed));
+        let report = String::from_utf8(report(&protocol, &device)).unwrap();
+        if report.starts_with("fit ") {
+            fitting += 1;
+            assert_eq!(report.lines().count(), 1);
+        } else {
+            failing += 1;
+            let moves: usize = report.lines().next().unwrap().strip_prefix("no fit ").unwrap().parse().unwrap();
+            assert_eq!(report.lines().count(), moves + 2);
+            assert!(matches!(report.lines().last(), Some("blamed" | "jammed")));
+        }
+        assert!(report.ends_with('\n'));
+    }
+    println!("fitting {fitting}, failing {failing}");
+    assert!(fitting > 100 && failing > 100);
+}
