@@ -1,8 +1,7 @@
 //! The repository's case files, through the second implementation.
 //!
 //! A line is `COMMAND given = wanted # comment`. Numbers are hexadecimal, `20*5` is a number repeated (the count in hexadecimal
-//! too), double-quoted text stands for its bytes. The files are those of `../crates/cases/data`; where one is not there it is
-//! looked for in the directories of the variable `CASES`, separated by colons, and passed over when it is nowhere.
+//! too), double-quoted text stands for its bytes. The files are those of `../crates/cases/data`.
 
 use sojimu::second::brute::explore;
 use sojimu::second::fit::{fit, shows_no_fit, Answer};
@@ -10,7 +9,7 @@ use sojimu::second::message;
 use sojimu::second::monitor::{due, step, Side, Standing, State, Verdict};
 use sojimu::second::table::{Raw, Table};
 use sojimu::second::text;
-use std::path::{Path, PathBuf};
+use std::path::Path;
 
 const UNTOUCHED: u8 = 0xEE;
 const UNTOUCHED_ENTRY: u16 = 0xEEEE;
@@ -51,10 +50,7 @@ struct Run {
 
 /// Runs a file, which has at least so many cases.
 fn run(name: &str, least: usize) {
-    let Some(path) = found(name) else {
-        eprintln!("{name}: not here, passed over");
-        return;
-    };
+    let path = Path::new(env!("CARGO_MANIFEST_DIR")).join("../crates/cases/data").join(name);
     let lines = std::fs::read(&path).unwrap();
     let mut run = Run { table: Raw::empty(), state: State::fresh() };
     let mut cases = 0;
@@ -72,14 +68,6 @@ fn run(name: &str, least: usize) {
     println!("{}: {cases} cases, {} wrong", path.display(), wrong.len());
     assert!(wrong.is_empty(), "{}", wrong.join("\n"));
     assert!(cases >= least, "{name}: only {cases} cases");
-}
-
-fn found(name: &str) -> Option<PathBuf> {
-    let elsewhere = std::env::var("CASES").unwrap_or_default();
-    let here = Path::new(env!("CARGO_MANIFEST_DIR")).join("../crates/cases/data");
-    let mut directories = vec![here];
-    directories.extend(elsewhere.split(':').filter(|part| !part.is_empty()).map(PathBuf::from));
-    directories.into_iter().map(|directory| directory.join(name)).find(|path| path.is_file())
 }
 
 /// A line's command, given and wanted numbers; none for a line without a case.

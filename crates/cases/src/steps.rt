@@ -107,7 +107,13 @@ fn put_verdict(v: Verdict, got: &mut [u64; 9216]) -> usize {
     match v {
         Verdict::Refused(q) => put_four(got, 0, numbers::wide(q), 0, 0),
         Verdict::Blamed(p, why) => {
-            put_four(got, 1, party_number(p), reason_number(why), field_number(why))
+            put_four(
+                got,
+                1,
+                party_number(p),
+                reason_number(why),
+                field_number(why),
+            )
         }
         Verdict::Forwarded => put_four(got, 2, 0, 0, 0),
     }

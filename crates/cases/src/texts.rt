@@ -29,7 +29,16 @@ pub fn whole(given: &[u64; 9216], n: usize, got: &mut [u64; 9216]) -> usize {
     let t = table_of(given, 0, n);
     let next = put_sorts(&t.sort, t.states, got, at);
     put_branches(
-        t.branches, &t.owner, &t.target, &t.fields, &t.label, &t.kind, &t.low, &t.high, got, next,
+        t.branches,
+        &t.owner,
+        &t.target,
+        &t.fields,
+        &t.label,
+        &t.kind,
+        &t.low,
+        &t.high,
+        got,
+        next,
     )
 }
 
