@@ -11,3 +11,6 @@ pub mod Law
 pub mod Values
 pub mod Scans
 pub mod Words
+pub mod Given
+pub mod Turns
+pub mod Whole
