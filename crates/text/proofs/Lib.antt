@@ -26,3 +26,6 @@ pub mod SoundTable
 pub mod Exactly
 pub mod Unique
 pub mod Examples
+pub mod Given
+pub mod Turns
+pub mod Whole

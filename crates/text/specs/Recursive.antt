@@ -1,6 +1,7 @@
 -- Reading by recursion: what the inner functions give at each place of a text. This need not be believed: a law joins it to
 -- `reads`, which is all that the call promises.
 -- Assumes nothing.
+use mathlib.Core.Path.{_≡_}
 use mathlib.Core.Bool.{Bool, true, false, cond}
 use mathlib.Core.List.{List, [], _∷_}
 use mathlib.Core.Option.{Option, none, some}
@@ -27,8 +28,21 @@ use Rattle.text.specs.declared.scope.Found.the-variants.{At, Unbound}
 use Rattle.text.specs.declared.scope.Scope.{Scope}
 use Rattle.text.specs.declared.build.Branch.{Branch}
 use Rattle.text.specs.declared.types.Label.{Label}
+use Rattle.text.specs.declared.types.Progress.{Progress}
 use Rattle.text.specs.declared.Reading.{Reading}
 use Rattle.text.specs.Kind as K
+
+-- ---- answers over lent columns
+
+abbrev pub progress : ℕ → ℕ → ℕ → ℕ → Progress
+progress q at states branches = record { question = q; at = at; states = states; branches = branches }
+
+-- R is what is defined, r what is answered, T the table of the lent columns: the same question and place, and the same table where
+-- there is one
+pub record Gives (R : Reading) (r : Progress) (T : Table) : Type 0 where
+  pub question : r .question ≡ R .question
+  pub at : r .at ≡ R .at
+  pub table : r .question ≡ 0 → T ≡ R .table
 
 -- ---- one token
 

@@ -1,9 +1,11 @@
-// The table while a text is read: it only grows.
+// The columns of a table while a text is read: they are lent, and only filled.
 use crate::field::Fields;
-use table::Table;
 ghost use mathlib.Core.Path.{_≡_};
-ghost use Prim.Native.Nat.{_<_, _≤_};
-ghost use Rattle.text.specs.Building.{addState, addBranch, anyLabel};
+ghost use Prim.Native.Nat.{ℕ, _+_, _<_, _≤_};
+ghost use mathlib.Core.List.{List};
+ghost use lib.ListN.{set};
+ghost use Rattle.table.specs.View.{columns};
+ghost use Rattle.text.specs.Building.{addBranch, anyLabel};
 ghost use Rattle.text.specs.Recursive.{branchOf};
 
 // A branch before it is stored; what is unused of its fields is 0.
@@ -34,42 +36,46 @@ pub fn branch_of(label: u64, owner: u8, target: u8, f: Fields) -> Branch
     }
 }
 
-pub fn add_state(t: Table, sort: u8) -> Table
-    requires { ⌜ t .states < 32 ⌝ }
-    ensures { λ r. ⌜ r ≡ addState t sort ⌝ }
+// Stores the sort of state n.
+pub fn put_state(n: usize, code: u8, sort: &mut [u8; 32])
+    requires { ⌜ n < 32 ⌝ }
+    ensures { λ _. ⌜ now (sort .exit) ≡ set (now (sort .entry)) n code ⌝ }
 {
-    let mut u = t;
-    let n = t.states as usize;
-    u.sort[n] = sort;
-    u.states = t.states + 1;
-    u
+    sort[n] = code;
 }
 
-pub fn add_branch(t: Table, b: Branch) -> Table
-    requires { ⌜ t .branches < 128 ⌝ }
-    ensures { λ r. ⌜ r ≡ addBranch t b ⌝ }
+// Stores branch n.
+pub fn put_branch(
+    n: usize,
+    b: Branch,
+    owner: &mut [u8; 128],
+    target: &mut [u8; 128],
+    fields: &mut [u8; 128],
+    label: &mut [u64; 128],
+    kind: &mut [u8; 512],
+    low: &mut [u32; 512],
+    high: &mut [u32; 512],
+)
+    requires { ⌜ n < 128 ⌝ }
+    ensures { λ _. ⌜ ((m : ℕ) (S : List ℕ) → columns m (n + 1) S (now (owner .exit)) (now (target .exit)) (now (fields .exit)) (now (label .exit)) (now (kind .exit)) (now (low .exit)) (now (high .exit)) ≡ addBranch (columns m n S (now (owner .entry)) (now (target .entry)) (now (fields .entry)) (now (label .entry)) (now (kind .entry)) (now (low .entry)) (now (high .entry))) b) ⌝ }
 {
-    let mut u = t;
-    let n = t.branches as usize;
-    u.branches = t.branches + 1;
-    u.owner[n] = b.owner;
-    u.target[n] = b.target;
-    u.fields[n] = b.count;
-    u.label[n] = b.label;
+    owner[n] = b.owner;
+    target[n] = b.target;
+    fields[n] = b.count;
+    label[n] = b.label;
     let k = 4 * n;
-    u.kind[k] = b.kinds[0];
-    u.kind[k + 1] = b.kinds[1];
-    u.kind[k + 2] = b.kinds[2];
-    u.kind[k + 3] = b.kinds[3];
-    u.low[k] = b.lows[0];
-    u.low[k + 1] = b.lows[1];
-    u.low[k + 2] = b.lows[2];
-    u.low[k + 3] = b.lows[3];
-    u.high[k] = b.highs[0];
-    u.high[k + 1] = b.highs[1];
-    u.high[k + 2] = b.highs[2];
-    u.high[k + 3] = b.highs[3];
-    u
+    kind[k] = b.kinds[0];
+    kind[k + 1] = b.kinds[1];
+    kind[k + 2] = b.kinds[2];
+    kind[k + 3] = b.kinds[3];
+    low[k] = b.lows[0];
+    low[k + 1] = b.lows[1];
+    low[k + 2] = b.lows[2];
+    low[k + 3] = b.lows[3];
+    high[k] = b.highs[0];
+    high[k + 1] = b.highs[1];
+    high[k + 2] = b.highs[2];
+    high[k + 3] = b.highs[3];
 }
 
 // Whether one of the first n branches is the owner's and has the label.

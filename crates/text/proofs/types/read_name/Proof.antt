@@ -1,6 +1,9 @@
 -- `text::types/read_name` meets its contract. Assumes nothing.
+use mathlib.Core.Path.{refl}
+use native.Mathlib.Omega.{arith}
 use borrow.Author.Needs.{needs}
 use Rattle.text.specs.Recursive.{nameType, found}
+use Rattle.text.proofs.Given.{gives-refused, gives-read}
 use Rattle.text.proofs.types.read_name.Statement.{statement}
 use Rattle.text.proofs.types.read_name.Tie as tie
 
@@ -33,15 +36,15 @@ refuse-requires-2 c κs = search needs
 
 returns : tie.Need-returns
 unfolding nameType found
-returns c = simp (← c .before .before .before .before .word-of .ensures, ← c .before .before .before .find-name .ensures, c .before .enum-told .given .1, ← c .refuse .ensures)
+returns c = λ S o t f l k a b. gives-refused _ _ _ 4 _ (simp (← c .before .before .before .before .word-of .ensures, ← c .before .before .before .find-name .ensures, c .before .enum-told .given .1)) (c .refuse .ensures) (λ z. omega arith)
 
 returns-2 : tie.Need-returns-2
 unfolding nameType found
-returns-2 c = simp (← c .before .before .before .before .before .word-of .ensures, ← c .before .before .before .before .find-name .ensures, c .before .before .enum-told2 .given .1, c .before .if1 .taken, ← c .refuse2 .ensures)
+returns-2 c = λ S o t f l k a b. gives-refused _ _ _ 5 _ (simp (← c .before .before .before .before .before .word-of .ensures, ← c .before .before .before .before .find-name .ensures, c .before .before .enum-told2 .given .1, c .before .if1 .taken)) (c .refuse2 .ensures) (λ z. omega arith)
 
 returns-3 : tie.Need-returns-3
 unfolding nameType found
-returns-3 c = simp (← c .before .before .before .before .word-of .ensures, ← c .before .before .before .find-name .ensures, c .before .enum-told2 .given .1, c .if1 .left)
+returns-3 c = λ S o t f l k a b. gives-read _ _ _ refl (simp (← c .before .before .before .before .word-of .ensures, ← c .before .before .before .find-name .ensures, c .before .enum-told2 .given .1, c .if1 .left))
 
 pub read-name-spec : {M : Type 1} → statement M
 read-name-spec =

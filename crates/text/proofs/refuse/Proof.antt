@@ -1,8 +1,8 @@
--- `reader::refuse` meets its contract: the tests on the way say which case holds. Assumes nothing.
+-- `text::refuse` meets its contract. Assumes nothing.
 use borrow.Author.Needs.{needs}
 use Rattle.text.specs.Building.{refused}
-use Rattle.text.proofs.types.refuse.Statement.{statement}
-use Rattle.text.proofs.types.refuse.Tie as tie
+use Rattle.text.proofs.refuse.Statement.{statement}
+use Rattle.text.proofs.refuse.Tie as tie
 
 empty-requires : tie.Need-empty-requires
 empty-requires c κs = search needs
