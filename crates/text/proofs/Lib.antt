@@ -1,16 +1,22 @@
+-- Tokens: Bytes, Runs, Span, Onward, Words, Values. The law that joins reading by tokens and by recursion: Tokens, Unroll, Steps,
+-- FieldLaw, Grow, Law. The code over lent columns: Scans, Given, Turns, Whole. The grammar: the rest, with Exactly, Unique and Prefix
+-- as its theorems.
 pub mod Bytes
 pub mod Runs
 pub mod Span
 pub mod Onward
+pub mod Words
+pub mod Values
 pub mod Tokens
 pub mod Unroll
 pub mod Steps
 pub mod FieldLaw
 pub mod Grow
 pub mod Law
-pub mod Values
 pub mod Scans
-pub mod Words
+pub mod Given
+pub mod Turns
+pub mod Whole
 pub mod Laid
 pub mod Toks
 pub mod Goes
@@ -26,6 +32,3 @@ pub mod SoundTable
 pub mod Exactly
 pub mod Unique
 pub mod Examples
-pub mod Given
-pub mod Turns
-pub mod Whole

@@ -1,4 +1,4 @@
--- `text::read` meets its contract. Assumes nothing.
+-- `text::read` meets its contract: what reading the type gives, and the test of the token after it, say which case holds. Assumes nothing.
 use mathlib.Core.Path.{sym, ap, _∙_}
 use native.Mathlib.Omega.{arith}
 use borrow.Author.Tests.{eq-eqb, ne-eqb, lt-ltb}

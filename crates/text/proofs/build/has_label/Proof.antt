@@ -1,4 +1,4 @@
--- `text::build/has_label` meets its contract. Assumes nothing.
+-- `text::build::has_label` meets its contract. The loop's invariant: the branches from i on are not the owner's, or have another label. Assumes nothing.
 use mathlib.Core.Path.{_≡_, refl, sym, _∙_}
 use Prim.Native.Nat.{_≤_}
 use native.Mathlib.Omega.{arith}

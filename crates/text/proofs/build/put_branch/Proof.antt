@@ -1,4 +1,4 @@
--- `text::build/put_branch` meets its contract. Assumes nothing.
+-- `text::build::put_branch` meets its contract, by computing. Assumes nothing.
 use mathlib.Core.Path.{refl}
 use borrow.Author.Needs.{needs}
 use Rattle.text.specs.Building.{addBranch}

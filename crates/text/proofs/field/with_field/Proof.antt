@@ -1,4 +1,4 @@
--- `fields::with_field` meets its contract, by computing. Assumes nothing.
+-- `text::field::with_field` meets its contract, by computing. Assumes nothing.
 use mathlib.Core.Path.{refl}
 use borrow.Author.Needs.{needs}
 use Rattle.text.specs.Recursive.{withField}

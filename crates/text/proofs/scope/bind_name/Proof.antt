@@ -1,4 +1,4 @@
--- `text::scope/bind_name` meets its contract. Assumes nothing.
+-- `text::scope::bind_name` meets its contract, by computing. Assumes nothing.
 use borrow.Author.Needs.{needs}
 use Rattle.text.specs.Recursive.{bind}
 use Rattle.text.proofs.scope.bind_name.Statement.{statement}

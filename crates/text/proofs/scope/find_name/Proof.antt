@@ -1,4 +1,4 @@
--- `text::scope/find_name` meets its contract. Assumes nothing.
+-- `text::scope::find_name` meets its contract. The loop's invariant: the bindings from i on do not have the name. Assumes nothing.
 use mathlib.Core.Path.{_≡_, refl, sym, _∙_}
 use Prim.Native.Nat.{_≤_}
 use native.Mathlib.Omega.{arith}

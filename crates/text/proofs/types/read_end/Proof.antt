@@ -1,4 +1,4 @@
--- `text::types/read_end` meets its contract. Assumes nothing.
+-- `text::types::read_end` meets its contract: the test says which case holds. Assumes nothing.
 use mathlib.Core.Path.{refl}
 use native.Mathlib.Omega.{arith}
 use borrow.Author.Tests.{le-leb, lt-leb}

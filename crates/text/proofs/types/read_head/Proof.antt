@@ -1,4 +1,4 @@
--- `text::types/read_head` meets its contract. Assumes nothing.
+-- `text::types::read_head` meets its contract: the tests on the way say which case holds. Assumes nothing.
 use mathlib.Core.Path.{refl}
 use native.Mathlib.Omega.{arith}
 use borrow.Author.Tests.{eq-eqb, ne-eqb, le-leb, lt-leb}

@@ -1,4 +1,4 @@
--- `text::types/read_label` meets its contract. Assumes nothing.
+-- `text::types::read_label` meets its contract: the tests on the way say which case holds. Assumes nothing.
 use borrow.Author.Tests.{eq-eqb, ne-eqb}
 use borrow.Author.Needs.{needs}
 use Rattle.text.specs.Recursive.{labelAt, labelFrom}

@@ -1,4 +1,4 @@
--- `text::types/read_name` meets its contract. Assumes nothing.
+-- `text::types::read_name` meets its contract: each arm knows what the search found. Assumes nothing.
 use mathlib.Core.Path.{refl}
 use native.Mathlib.Omega.{arith}
 use borrow.Author.Needs.{needs}

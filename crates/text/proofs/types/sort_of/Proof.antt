@@ -1,4 +1,4 @@
--- `reader::sign_of` meets its contract: the tests on the way say which case holds. Assumes nothing.
+-- `text::types::sort_of` meets its contract: the tests on the way say which case holds. Assumes nothing.
 use borrow.Author.Tests.{eq-eqb, ne-eqb}
 use Rattle.text.specs.Reading.{sortCode}
 use Rattle.text.proofs.types.sort_of.Statement.{statement}
