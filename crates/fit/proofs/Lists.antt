@@ -18,15 +18,6 @@ all-three true true c e = (refl, refl, e)
 all-three true false c e = absurd (false≢true e)
 all-three false b c e = absurd (false≢true e)
 
-pub all-six : (a b c d e f : Bool) → (a && b && c && d && e && f) ≡ true
-    → (a ≡ true) × (b ≡ true) × (c ≡ true) × (d ≡ true) × (e ≡ true) × (f ≡ true)
-all-six a b c d e f h =
-    let x = both (a && b && c && d && e) f h in
-    let y = both (a && b && c && d) e (x .0) in
-    let z = both (a && b && c) d (y .0) in
-    let w = all-three a b c (z .0) in
-    (w .0, w .1, w .2, z .1, y .1, x .1)
-
 -- a conjunction fails at its first part, or at its second after the first passed
 pub which-fails : (a b : Bool) → (a && b) ≡ false → (a ≡ false) ⊎ ((a ≡ true) × (b ≡ false))
 which-fails true b e = inr (refl, e)
