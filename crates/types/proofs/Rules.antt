@@ -16,7 +16,7 @@ use Rattle.table.proofs.Facts.{same-eq, same-refl}
 use Rattle.message.specs.Message.{Message}
 use Rattle.text.specs.Token.{wordOf}
 use Rattle.text.specs.Grammar.{Field, Ty, stop, var, loop, choice, Br, last, also, is-name, recs-guarded, recs-guardedBr, has-label, labels-differ, labels-differBr}
-use Rattle.text.proofs.Words.{Label}
+use Rattle.text.proofs.Packed.{Label}
 use Rattle.text.proofs.Names.{Labelled, LabelledBr}
 use Rattle.monitor.specs.declared.Party.{Party}
 use Rattle.monitor.specs.declared.Party.the-variants.{Device, Host}
