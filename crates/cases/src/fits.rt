@@ -22,7 +22,14 @@ fn divide(given: &[u64; 9216], from: usize, to: usize) -> usize {
     to
 }
 
-pub fn answer(given: &[u64; 9216], n: usize, got: &mut [u64; 9216]) -> usize {
+pub fn answer(command: u8, given: &[u64; 9216], n: usize, got: &mut [u64; 9216]) -> usize {
+    if command == b'x' {
+        return whole(given, n, got);
+    }
+    short(given, n, got)
+}
+
+fn whole(given: &[u64; 9216], n: usize, got: &mut [u64; 9216]) -> usize {
     let a = divide(given, 0, n);
     if 9000 < a {
         return 0;
@@ -40,8 +47,8 @@ pub fn answer(given: &[u64; 9216], n: usize, got: &mut [u64; 9216]) -> usize {
     put_list(&list, room, got, at)
 }
 
-pub fn short(given: &[u64; 9216], n: usize, got: &mut [u64; 9216]) -> usize {
-    let k = answer(given, n, got);
+fn short(given: &[u64; 9216], n: usize, got: &mut [u64; 9216]) -> usize {
+    let k = whole(given, n, got);
     if k < 2 {
         return k;
     }

@@ -34,8 +34,8 @@ fn load(name: &[u8], buf: &mut [u8]) -> usize
     n
 }
 
-// `base` is the table that lines edit, and `talk` the state of the conversation that goes on.
-// How many numbers the command's call puts into `got`; none for an unknown command.
+// How many numbers the command's call puts into `got`; none for an unknown command. `base` is the table that lines edit, and
+// `talk` the state of the conversation that goes on.
 fn answer(
     command: u8,
     base: Table,
@@ -45,22 +45,12 @@ fn answer(
     got: &mut [u64; 9216],
 ) -> usize {
     match command {
-        b'j' => tables::sound(base, got),
-        b't' => tables::sound(tables::edited(base, numbers, 0, given), got),
-        b'p' => tables::sound_at(tables::edited(base, numbers, 1, given), numbers[0], got),
-        b'v' => tables::dual(tables::edited(base, numbers, 0, given), got),
-        b'm' => messages::refusal(numbers, given, got),
-        b'n' => messages::front(numbers, given, got),
-        b'h' => messages::has_label(numbers, given, got),
-        b'q' => texts::counts(numbers, given, got),
-        b'r' => texts::whole(numbers, given, got),
-        b's' => steps::step_from(base, numbers, given, got),
-        b'g' => steps::put_state(monitor::fresh(), got, 0),
-        b'u' => steps::step(base, talk, numbers, 2, given, got),
-        b'w' => steps::due(base, numbers, given, got),
-        b'x' => fits::answer(numbers, given, got),
-        b'y' => fits::short(numbers, given, got),
-        b'k' => messages::make(tables::edited(base, numbers, 3, given), numbers, got),
+        b'j' | b't' | b'p' | b'v' => tables::answer(command, base, numbers, given, got),
+        b'm' | b'n' | b'h' => messages::answer(command, numbers, given, got),
+        b'k' => messages::make(base, numbers, given, got),
+        b'q' | b'r' => texts::answer(command, numbers, given, got),
+        b's' | b'g' | b'u' | b'w' => steps::answer(command, base, talk, numbers, given, got),
+        b'x' | b'y' => fits::answer(command, numbers, given, got),
         _ => 0,
     }
 }

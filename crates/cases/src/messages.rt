@@ -5,17 +5,26 @@
 //   k branch high room edits = question length buffer..      a message made into a buffer of `room` bytes 0xEE, from the
 //                                      table with the edits; a `high` of 100 and more names no field
 use super::numbers;
+use super::tables;
 use message::High;
 use message::Made;
 use table::Table;
 
-pub fn refusal(given: &[u64; 9216], n: usize, got: &mut [u64; 9216]) -> usize {
+pub fn answer(command: u8, given: &[u64; 9216], n: usize, got: &mut [u64; 9216]) -> usize {
+    match command {
+        b'm' => refusal(given, n, got),
+        b'n' => front(given, n, got),
+        _ => has_label(given, n, got),
+    }
+}
+
+fn refusal(given: &[u64; 9216], n: usize, got: &mut [u64; 9216]) -> usize {
     let mut bytes = [0u8; 9216];
     let size = numbers::bytes_of(given, 0, n, &mut bytes);
     numbers::put(got, 0, numbers::wide(message::refusal(&bytes[..size])))
 }
 
-pub fn front(given: &[u64; 9216], n: usize, got: &mut [u64; 9216]) -> usize {
+fn front(given: &[u64; 9216], n: usize, got: &mut [u64; 9216]) -> usize {
     let mut bytes = [0u8; 9216];
     let size = numbers::bytes_of(given, 0, n, &mut bytes);
     let head = message::front(&bytes[..size]);
@@ -23,15 +32,15 @@ pub fn front(given: &[u64; 9216], n: usize, got: &mut [u64; 9216]) -> usize {
     numbers::put(got, at, head.length as u64)
 }
 
-pub fn has_label(given: &[u64; 9216], n: usize, got: &mut [u64; 9216]) -> usize {
+fn has_label(given: &[u64; 9216], n: usize, got: &mut [u64; 9216]) -> usize {
     let mut bytes = [0u8; 9216];
     let size = numbers::bytes_of(given, 1, n, &mut bytes);
     let yes = message::has_label(&bytes[..size], given[0]);
     numbers::put(got, 0, if yes { 1 } else { 0 })
 }
 
-// The table is edited already.
-pub fn make(t: Table, given: &[u64; 9216], got: &mut [u64; 9216]) -> usize {
+pub fn make(base: Table, given: &[u64; 9216], n: usize, got: &mut [u64; 9216]) -> usize {
+    let t = tables::edited(base, given, 3, n);
     let mut bytes = [0xEEu8; 1024];
     let room = (given[2] % 1024) as usize;
     let branch = (given[0] % 65536) as u16;

@@ -11,7 +11,23 @@ use monitor::State;
 use monitor::Verdict;
 use table::Table;
 
-pub fn state_of(position: u64, standing: u64) -> State {
+pub fn answer(
+    command: u8,
+    base: Table,
+    talk: State,
+    given: &[u64; 9216],
+    n: usize,
+    got: &mut [u64; 9216],
+) -> usize {
+    match command {
+        b's' => step_from(base, given, n, got),
+        b'u' => step(base, talk, given, 2, n, got),
+        b'w' => due(base, given, n, got),
+        _ => put_state(monitor::fresh(), got, 0),
+    }
+}
+
+fn state_of(position: u64, standing: u64) -> State {
     State {
         position: (position % 256) as u8,
         standing: standing_of(standing),
@@ -47,12 +63,12 @@ pub fn goes_on(command: u8, talk: State, got: &[u64; 9216]) -> State {
 }
 
 // A step from the state that the line gives.
-pub fn step_from(t: Table, given: &[u64; 9216], n: usize, got: &mut [u64; 9216]) -> usize {
+fn step_from(t: Table, given: &[u64; 9216], n: usize, got: &mut [u64; 9216]) -> usize {
     step(t, state_of(given[0], given[1]), given, 4, n, got)
 }
 
 // Takes the step and puts what it gives; the message stands from place `from` on, its side and room before it.
-pub fn step(
+fn step(
     t: Table,
     s: State,
     given: &[u64; 9216],
@@ -75,7 +91,7 @@ pub fn step(
     numbers::put_bytes(got, at, &out, room)
 }
 
-pub fn put_state(s: State, got: &mut [u64; 9216], at: usize) -> usize {
+fn put_state(s: State, got: &mut [u64; 9216], at: usize) -> usize {
     let standing = s.standing;
     let next = numbers::put(got, at, numbers::wide(s.position));
     numbers::put(got, next, standing_number(standing))
@@ -136,7 +152,7 @@ fn field_number(why: Reason) -> u64 {
 }
 
 // The due part: its length and its bytes.
-pub fn due(t: Table, given: &[u64; 9216], n: usize, got: &mut [u64; 9216]) -> usize {
+fn due(t: Table, given: &[u64; 9216], n: usize, got: &mut [u64; 9216]) -> usize {
     let mut bytes = [0u8; 9216];
     let size = numbers::bytes_of(given, 3, n, &mut bytes);
     let s = state_of(given[0], given[1]);

@@ -95,17 +95,32 @@ fn with_field_entry(t: Table, column: u64, index: usize, value: u64) -> Table
     d
 }
 
+pub fn answer(
+    command: u8,
+    base: Table,
+    given: &[u64; 9216],
+    n: usize,
+    got: &mut [u64; 9216],
+) -> usize {
+    match command {
+        b't' => sound(edited(base, given, 0, n), got),
+        b'p' => sound_at(edited(base, given, 1, n), given[0], got),
+        b'v' => dual(edited(base, given, 0, n), got),
+        _ => sound(base, got),
+    }
+}
+
 // 9 where the table is not sound, else 0.
-pub fn sound(t: Table, got: &mut [u64; 9216]) -> usize {
+fn sound(t: Table, got: &mut [u64; 9216]) -> usize {
     numbers::put(got, 0, if table::sound(t) { 0 } else { 9 })
 }
 
-pub fn sound_at(t: Table, position: u64, got: &mut [u64; 9216]) -> usize {
+fn sound_at(t: Table, position: u64, got: &mut [u64; 9216]) -> usize {
     let p = (position % 256) as u8;
     numbers::put(got, 0, if table::sound_at(t, p) { 0 } else { 9 })
 }
 
-pub fn dual(t: Table, got: &mut [u64; 9216]) -> usize {
+fn dual(t: Table, got: &mut [u64; 9216]) -> usize {
     let once = table::dual(t);
     let d = once.table;
     let twice = table::dual(d);

@@ -13,7 +13,14 @@ pub fn table_of(given: &[u64; 9216], from: usize, to: usize) -> Table {
     r.table
 }
 
-pub fn counts(given: &[u64; 9216], n: usize, got: &mut [u64; 9216]) -> usize {
+pub fn answer(command: u8, given: &[u64; 9216], n: usize, got: &mut [u64; 9216]) -> usize {
+    if command == b'q' {
+        return counts(given, n, got);
+    }
+    whole(given, n, got)
+}
+
+fn counts(given: &[u64; 9216], n: usize, got: &mut [u64; 9216]) -> usize {
     let mut bytes = [0u8; 9216];
     let size = numbers::bytes_of(given, 0, n, &mut bytes);
     let r = text::read(&bytes[..size]);
@@ -24,7 +31,7 @@ pub fn counts(given: &[u64; 9216], n: usize, got: &mut [u64; 9216]) -> usize {
     numbers::put(got, at, numbers::wide(t.branches))
 }
 
-pub fn whole(given: &[u64; 9216], n: usize, got: &mut [u64; 9216]) -> usize {
+fn whole(given: &[u64; 9216], n: usize, got: &mut [u64; 9216]) -> usize {
     let at = counts(given, n, got);
     let t = table_of(given, 0, n);
     let next = put_sorts(&t.sort, t.states, got, at);

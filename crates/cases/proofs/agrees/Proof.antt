@@ -1,12 +1,8 @@
 -- `cases::agrees` meets its contract. Assumes nothing.
-use mathlib.Core.Path.{_≡_}
-use Prim.Native.Nat.{_≤_, _<_, _-_, _+_}
-use lib.ListN.{length}
+use Prim.Native.Nat.{_≤_, _-_}
 use borrow.Author.Needs.{needs}
 use Rattle.cases.proofs.agrees.Statement.{statement}
 use Rattle.cases.proofs.agrees.Tie as tie
-use Rattle.cases.proofs.agrees.Reads as reads
-use Rattle.cases.proofs.agrees.Lts as lts
 
 abbrev Inv-loop : tie.InvT-loop
 Inv-loop numbers given total got n k₀ k = (k ≤ n)

@@ -1,14 +1,8 @@
 -- `cases::print_numbers` meets its contract. Assumes nothing.
-use mathlib.Core.Path.{_≡_}
-use Prim.Native.Nat.{_≤_, _<_, _-_, _+_}
-use lib.ListN.{length}
+use Prim.Native.Nat.{_-_}
 use borrow.Author.Needs.{needs}
 use Rattle.cases.proofs.print_numbers.Statement.{statement}
 use Rattle.cases.proofs.print_numbers.Tie as tie
-use Rattle.cases.proofs.print_numbers.Reads as reads
-use Rattle.cases.proofs.print_numbers.Lts as lts
-use Rattle.io.proofs.print_hex.Reads as print-hex-reads
-use Rattle.io.proofs.write_all.Reads as write-all-reads
 
 abbrev Inv-loop : tie.InvT-loop
 Inv-loop got n k₀ t4 k = Unit {0}

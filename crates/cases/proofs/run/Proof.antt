@@ -1,26 +1,21 @@
 -- `cases::run` meets its contract. Assumes nothing.
-use mathlib.Core.Path.{_≡_}
-use Prim.Native.Nat.{_≤_, _<_, _-_, _+_}
+use Prim.Native.Nat.{_≤_, _-_}
 use lib.ListN.{length}
 use borrow.Author.Needs.{needs}
 use Rattle.cases.proofs.run.Statement.{statement}
 use Rattle.cases.proofs.run.Tie as tie
-use Rattle.cases.proofs.run.Reads as reads
-use Rattle.cases.proofs.run.Lts as lts
-use Rattle.cases.proofs.counted.Reads as counted-reads
-use Rattle.cases.proofs.line.parse.Reads as parse-reads
-use Rattle.cases.proofs.right.Reads as right-reads
-use Rattle.cases.proofs.tables.edited.Reads as edited-reads
-use Rattle.table.proofs.empty.Reads as empty-reads
 
 abbrev Inv-loop : tie.InvT-loop
-Inv-loop s numbers₀ got₀ base₀ tally₀ at₀ numbers got base tally at = (at ≤ length s) × (length s ≤ 65536) × (tally .lines ≤ at) × (tally .cases ≤ tally .lines) × (tally .wrong ≤ tally .lines)
+Inv-loop s numbers₀ got₀ base₀ talk₀ tally₀ at₀ numbers got base talk tally at = (at ≤ length s) × (length s ≤ 65536) × (tally .lines ≤ at) × (tally .cases ≤ tally .lines) × (tally .wrong ≤ tally .lines)
 
 abbrev μ-loop : tie.MeasureT-loop
-μ-loop s numbers₀ got₀ base₀ tally₀ at₀ numbers got base tally at = length s - at
+μ-loop s numbers₀ got₀ base₀ talk₀ tally₀ at₀ numbers got base talk tally at = length s - at
 
 empty-requires : tie.Need-empty-requires Inv-loop μ-loop
 empty-requires c κs = search needs
+
+fresh-requires : tie.Need-fresh-requires Inv-loop μ-loop
+fresh-requires c κs = search needs
 
 loop-holds : tie.Need-loop-holds Inv-loop μ-loop
 loop-holds c = search needs
@@ -42,6 +37,9 @@ right-requires c κs = search needs
 
 counted-requires : tie.Need-counted-requires Inv-loop μ-loop
 counted-requires c κs = search needs
+
+goes-on-requires : tie.Need-goes-on-requires Inv-loop μ-loop
+goes-on-requires c κs = search needs
 
 loop-less : tie.Need-loop-less Inv-loop μ-loop
 loop-less c = search needs
@@ -65,6 +63,7 @@ run-spec =
     Inv-loop
     μ-loop
     empty-requires
+    fresh-requires
     loop-holds
     parse-requires
     add-tally
@@ -72,6 +71,7 @@ run-spec =
     edited-requires
     right-requires
     counted-requires
+    goes-on-requires
     loop-less
     loop-again
     loop-less-2

@@ -4,11 +4,6 @@ use lib.ListN.{length}
 use borrow.Author.Needs.{needs}
 use Rattle.cases.proofs.line.parse.Statement.{statement}
 use Rattle.cases.proofs.line.parse.Tie as tie
-use Rattle.cases.proofs.line.parse.Reads as reads
-use Rattle.cases.proofs.line.parse.Lts as lts
-use Rattle.cases.proofs.line.begin.Reads as begin-reads
-use Rattle.cases.proofs.line.end.Reads as end-reads
-use Rattle.cases.proofs.line.take.Reads as take-reads
 
 abbrev Inv-loop : tie.InvT-loop
 Inv-loop s start numbers₀ c₀ at₀ numbers c at = (start ≤ at) × (at ≤ length s) × (start < length s)

@@ -1,14 +1,12 @@
 -- `cases::numbers/bytes_of` meets its contract. Assumes nothing.
 use mathlib.Core.Path.{_≡_, sym}
-use Prim.Native.Nat.{_≤_, _<_, _-_, _+_}
+use Prim.Native.Nat.{_≤_, _-_}
 use native.Mathlib.Omega.{arith}
 use lib.ListN.{length, length-set}
 use lib.Seq.{length-take-le}
 use borrow.Author.Needs.{needs}
 use Rattle.cases.proofs.numbers.bytes_of.Statement.{statement}
 use Rattle.cases.proofs.numbers.bytes_of.Tie as tie
-use Rattle.cases.proofs.numbers.bytes_of.Reads as reads
-use Rattle.cases.proofs.numbers.bytes_of.Lts as lts
 
 abbrev Inv-loop : tie.InvT-loop
 Inv-loop numbers from to out₀ n₀ at₀ out n at = (length out ≡ length out₀) × (n ≤ length out)

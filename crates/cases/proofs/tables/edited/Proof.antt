@@ -1,13 +1,8 @@
 -- `cases::tables/edited` meets its contract. Assumes nothing.
-use mathlib.Core.Path.{_≡_}
-use Prim.Native.Nat.{_≤_, _<_, _-_, _+_}
-use lib.ListN.{length}
+use Prim.Native.Nat.{_-_}
 use borrow.Author.Needs.{needs}
 use Rattle.cases.proofs.tables.edited.Statement.{statement}
 use Rattle.cases.proofs.tables.edited.Tie as tie
-use Rattle.cases.proofs.tables.edited.Reads as reads
-use Rattle.cases.proofs.tables.edited.Lts as lts
-use Rattle.cases.proofs.tables.with_entry.Reads as with-entry-reads
 
 abbrev Inv-loop : tie.InvT-loop
 Inv-loop given from to d₀ at₀ d at = Unit {0}

@@ -1,15 +1,8 @@
 -- `cases::texts::put_branches` meets its contract. Assumes nothing.
-use mathlib.Core.Path.{_≡_}
-use Prim.Native.Nat.{_≤_, _<_, _-_, _+_}
-use lib.ListN.{length}
+use Prim.Native.Nat.{_-_}
 use borrow.Author.Needs.{needs}
 use Rattle.cases.proofs.texts.put_branches.Statement.{statement}
 use Rattle.cases.proofs.texts.put_branches.Tie as tie
-use Rattle.cases.proofs.texts.put_branches.Reads as reads
-use Rattle.cases.proofs.texts.put_branches.Lts as lts
-use Rattle.cases.proofs.numbers.put.Reads as put-reads
-use Rattle.cases.proofs.numbers.wide.Reads as wide-reads
-use Rattle.cases.proofs.texts.put_fields.Reads as put-fields-reads
 
 abbrev Inv-loop : tie.InvT-loop
 Inv-loop n owner target fields label kind low high got₀ at next₀ k₀ got next k = Unit {0}

@@ -1,15 +1,8 @@
 -- `cases::texts::put_fields` meets its contract. Assumes nothing.
-use mathlib.Core.Path.{_≡_}
-use Prim.Native.Nat.{_≤_, _<_, _-_, _+_}
-use lib.ListN.{length}
+use Prim.Native.Nat.{_-_}
 use borrow.Author.Needs.{needs}
 use Rattle.cases.proofs.texts.put_fields.Statement.{statement}
 use Rattle.cases.proofs.texts.put_fields.Tie as tie
-use Rattle.cases.proofs.texts.put_fields.Reads as reads
-use Rattle.cases.proofs.texts.put_fields.Lts as lts
-use Rattle.cases.proofs.numbers.put.Reads as put-reads
-use Rattle.cases.proofs.numbers.wide.Reads as wide-reads
-use Rattle.cases.proofs.texts.wider.Reads as wider-reads
 
 abbrev Inv-loop : tie.InvT-loop
 Inv-loop kind low high from count got₀ at next₀ f₀ got next f = Unit {0}
