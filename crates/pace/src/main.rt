@@ -196,6 +196,8 @@ fn main() {
             return;
         }
     }
+    let owners = t.owner;
+    let position = owners[branch];
     if length <= 512 {
         print(steps(
             t.states,
@@ -208,7 +210,7 @@ fn main() {
             &t.kind,
             &t.low,
             &t.high,
-            t.owner[branch],
+            position,
             &buf[0..length],
             count,
         ));
