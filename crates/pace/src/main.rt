@@ -1,6 +1,7 @@
 // What one step of the monitor costs. `pace FILE BRANCH COUNT WHAT` reads the protocol in FILE, makes the message of the branch,
 // and COUNT times takes a step with it from the branch's state (WHAT is `s`) or asks question 9 (WHAT is `q`). It prints how many
-// of the steps were forwarded, or of the questions got a yes. Time it with any clock; document DECISIONS.md has figures.
+// of the steps were forwarded, or of the questions got a yes. The steps are alike, and the compiler may take them out of the loop:
+// count the instructions of a run with COUNT 1 and of one with COUNT 0. docs/DECISIONS.md has figures.
 ghost use Prim.Native.Nat.{_≤_};
 ghost use Rattle.io.specs.Counts.{Counts};
 use libc::STDOUT_FILENO;
