@@ -1,0 +1,4 @@
+-- What a reader has to believe of the boundary: the codes, and what the calls do that take or give them. Inner need not be believed.
+pub mod Codes
+pub mod Calls
+pub mod Inner
