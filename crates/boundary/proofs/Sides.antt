@@ -8,7 +8,6 @@ use mathlib.Core.Option.{Option, none, some}
 use Prim.Native.Nat.{ℕ, zero, suc}
 use native.Mathlib.Omega.{arith}
 use lib.ListN.{length, getD}
-use lib.Dec.{eqb}
 use Rattle.table.specs.Table.{is-choice, sort}
 use Rattle.table.specs.View.{view, soundAt}
 use Rattle.table.specs.declared.Table.{Table}
@@ -19,7 +18,7 @@ use Rattle.monitor.specs.declared.Reason.{Reason}
 use Rattle.monitor.specs.declared.Reason.the-variants.{NoLabel, OtherKinds, OutOfRange}
 use Rattle.monitor.specs.declared.Verdict.the-variants.{Blamed}
 use Rattle.monitor.specs.declared.Stepped.{Stepped}
-use Rattle.monitor.specs.Step.{running, is-party, speaker, first-no, of-state, asked, told, refusing, stepping, stepped}
+use Rattle.monitor.specs.Step.{running, is-party, speaker, first-no, of-state, told, refusing, stepping, stepped}
 use Rattle.monitor.specs.Due.{awaited}
 use Rattle.monitor.proofs.Asking.{not-its-turn, asked-first, asked-then, refused-step}
 use Rattle.boundary.specs.declared.steps.Verdict.{Verdict}

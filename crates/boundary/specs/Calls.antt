@@ -1,22 +1,23 @@
 -- What the calls that take or give codes do. The other calls' promises are those of the crates below.
 -- Assumes nothing.
 use mathlib.Core.Path.{_≡_}
-use mathlib.Core.Bool.{true, false}
+use mathlib.Core.Bool.{false}
 use mathlib.Core.List.{List, [], _∷_, _++_}
 use mathlib.Core.Option.{Option, none, some}
-use Prim.Native.Nat.{ℕ}
+use Prim.Native.Nat.{ℕ, zero, suc}
 use lib.ListN.{length, getD}
 use Rattle.table.specs.declared.Table.{Table}
 use Rattle.monitor.specs.declared.Party.{Party}
 use Rattle.monitor.specs.declared.Party.the-variants.{Device, Host}
 use Rattle.monitor.specs.declared.State as M
 use Rattle.monitor.specs.Step.{first-no, of-state, Told, refused, blamed, forwarded, Stepping, refusing, stepping}
-use Rattle.monitor.specs.Due.{first-length}
+use Rattle.monitor.specs.Due.{Seen, cut, first-length}
 use Rattle.fit.specs.Answer.{Answer, Answered, Demand}
 use Rattle.boundary.specs.declared.steps.Verdict.{Verdict}
 use Rattle.boundary.specs.declared.steps.Due.{Due}
 use Rattle.boundary.specs.declared.fits.Fit.{Fit}
 use Rattle.boundary.specs.Codes.{sideOf, stateOf, stateBytes, verdictCodes, fitCodes}
+use denote.Ref.{RefT}
 
 -- ---- one step
 
@@ -46,6 +47,14 @@ unfoldable pub due-codes : Option Party → List ℕ → List ℕ → Due
 due-codes (some Device) device host = record { side = 0; length = first-length device }
 due-codes (some Host) device host = record { side = 1; length = first-length host }
 due-codes none device host = record { side = 0; length = 0 }
+
+-- the part that they name: the first `length` of that side's bytes. It is the due part of document 01 (proofs/Due, due-part)
+unfoldable pub waiting : ℕ → RefT (List ℕ) → RefT (List ℕ) → RefT (List ℕ)
+waiting zero device host = device
+waiting (suc n) device host = host
+
+unfoldable pub part : Due → RefT (List ℕ) → RefT (List ℕ) → Seen
+part r device host = cut (waiting (r .side) device host) (r .length)
 
 -- ---- the fit check
 
