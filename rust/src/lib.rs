@@ -2,7 +2,7 @@
 //!
 //! [`proved`] is the product: the proved code of the static library `libboundary.a` behind safe types, all of which stand here
 //! too. [`second`] is a second implementation of the document, in safe Rust and written from the document alone. It is there to be
-//! compared with: a disagreement between it and the product is a fault of one of them.
+//! compared with: [`compare`] puts both through the same random inputs, and a disagreement is a fault of one of them.
 //!
 //! ```
 //! use sojimu::{Party, State, Table, Verdict};
@@ -20,6 +20,7 @@
 #![deny(missing_docs)]
 #![deny(unsafe_code)]
 
+pub mod compare;
 pub mod proved;
 #[allow(missing_docs)]
 pub mod second;
