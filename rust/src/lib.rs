@@ -3,6 +3,7 @@
 //! [`proved`] is the product: the proved code of the static library `libboundary.a` behind safe types, all of which stand here
 //! too. [`second`] is a second implementation of the document, in safe Rust and written from the document alone. It is there to be
 //! compared with: [`compare`] puts both through the same random inputs, and a disagreement is a fault of one of them.
+//! [`bench`](mod@bench) has what the proved code is timed against.
 //!
 //! ```
 //! use sojimu::{Party, State, Table, Verdict};
@@ -20,6 +21,7 @@
 #![deny(missing_docs)]
 #![deny(unsafe_code)]
 
+pub mod bench;
 pub mod compare;
 pub mod proved;
 #[allow(missing_docs)]

@@ -12,39 +12,41 @@ pub struct Both {
 
 impl Both {
     pub fn of(raw: &Raw) -> Both {
-        Both { proved: columns(raw), second: raw.table() }
+        Both { proved: Table::from(raw), second: raw.table() }
     }
 }
 
-/// The columns of one in the columns of the other.
-pub fn columns(raw: &Raw) -> Table {
-    Table {
-        states: raw.states,
-        branches: raw.branches,
-        sort: raw.sort,
-        owner: raw.owner,
-        target: raw.target,
-        fields: raw.fields,
-        label: raw.label,
-        kind: raw.kind,
-        low: raw.low,
-        high: raw.high,
+impl From<&Raw> for Table {
+    fn from(raw: &Raw) -> Table {
+        Table {
+            states: raw.states,
+            branches: raw.branches,
+            sort: raw.sort,
+            owner: raw.owner,
+            target: raw.target,
+            fields: raw.fields,
+            label: raw.label,
+            kind: raw.kind,
+            low: raw.low,
+            high: raw.high,
+        }
     }
 }
 
-/// The same the other way.
-pub fn raw(table: &Table) -> Raw {
-    Raw {
-        states: table.states,
-        branches: table.branches,
-        sort: table.sort,
-        owner: table.owner,
-        target: table.target,
-        fields: table.fields,
-        label: table.label,
-        kind: table.kind,
-        low: table.low,
-        high: table.high,
+impl From<&Table> for Raw {
+    fn from(table: &Table) -> Raw {
+        Raw {
+            states: table.states,
+            branches: table.branches,
+            sort: table.sort,
+            owner: table.owner,
+            target: table.target,
+            fields: table.fields,
+            label: table.label,
+            kind: table.kind,
+            low: table.low,
+            high: table.high,
+        }
     }
 }
 

@@ -62,7 +62,7 @@ fn pair(random: &mut Random, device: &Table, protocol: &Table, tally: &mut Tally
     }
     if random.one_in(16) {
         let column = random.below(COLUMNS);
-        let damaged = Both::of(&damaged_table(random, &super::both::raw(&device.proved), column));
+        let damaged = Both::of(&damaged_table(random, &Raw::from(&device.proved), column));
         check(&damaged, &protocol, 1024, tally)?;
         check(&device, &damaged, 1024, tally)?;
     }

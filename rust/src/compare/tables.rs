@@ -1,6 +1,6 @@
 //! Tables: sound, with noise beyond their counts, damaged in each column, and any; question 9, the dual, and messages made.
 
-use super::both::{raw, Both};
+use super::both::Both;
 use super::show::{self, Columns};
 use super::steps::{due_of, step_of, Given};
 use super::{Outcome, Tally};
@@ -40,7 +40,7 @@ fn one(random: &mut Random, columns: &Raw, tally: &mut Tally) -> Outcome {
     let dual = both.proved.dual();
     tally.asked(dual.as_ref().err().copied());
     let (question, turned) = columns.dual();
-    let meant = dual.as_ref().map(|table| raw(table).table()).map_err(|question| question.0);
+    let meant = dual.as_ref().map(|table| Raw::from(table).table()).map_err(|question| question.0);
     let wanted = if question == 0 { Ok(turned.table()) } else { Err(question) };
     tally.same("dual", meant, wanted, show)?;
     if let Ok(dual) = dual {

@@ -1,6 +1,5 @@
 //! Texts: legal, nearly legal, with tokens of any length, and any bytes.
 
-use super::both::columns;
 use super::show::{self, Columns};
 use super::{Outcome, Tally};
 use crate::proved::{Question, Refusal, Table};
@@ -20,7 +19,7 @@ pub fn case(random: &mut Random, tally: &mut Tally) -> Outcome {
 fn read(bytes: &[u8], tally: &mut Tally) -> Outcome {
     let proved = Table::read(bytes).map(Columns);
     let second = match text::read(bytes) {
-        Ok(table) => Ok(Columns(columns(&Raw::of(&table)))),
+        Ok(table) => Ok(Columns(Table::from(&Raw::of(&table)))),
         Err((number, at)) => Err(Refusal { question: Question(number), at }),
     };
     tally.asked(proved.as_ref().err().map(|refusal| refusal.question));
