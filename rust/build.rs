@@ -23,4 +23,5 @@ fn main() {
     let directory = found.parent().unwrap_or(&directory);
     println!("cargo::rustc-link-search=native={}", directory.display());
     println!("cargo::rustc-link-lib=static=boundary");
+    println!("cargo::rustc-env=SOJIMU_ARCHIVE={}", found.display());
 }
