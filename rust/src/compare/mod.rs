@@ -32,14 +32,14 @@ pub struct Kind {
 
 /// Every kind of comparison.
 pub const KINDS: [Kind; 8] = [
-    Kind { name: "texts", cases: 60_000, run: texts::case },
+    Kind { name: "texts", cases: 100_000, run: texts::case },
     Kind { name: "tables", cases: 1_500, run: tables::case },
     Kind { name: "messages", cases: 8_000, run: messages::case },
     Kind { name: "steps", cases: 30_000, run: steps::case },
-    Kind { name: "conversations", cases: 8, run: conversations::case },
-    Kind { name: "small-fits", cases: 3_000, run: fits::small },
-    Kind { name: "large-fits", cases: 600, run: fits::large },
-    Kind { name: "long-fits", cases: 300, run: fits::long },
+    Kind { name: "conversations", cases: 20, run: conversations::case },
+    Kind { name: "small-fits", cases: 20_000, run: fits::small },
+    Kind { name: "large-fits", cases: 4_000, run: fits::large },
+    Kind { name: "long-fits", cases: 2_000, run: fits::long },
 ];
 
 /// A case in which the two differ.
