@@ -3,7 +3,7 @@
 //!     cargo run --release --bin bench
 
 use sojimu::bench::by_hand::{self, Place};
-use sojimu::bench::clock::times;
+use sojimu::bench::clock::{race, Race};
 use sojimu::bench::inputs::{small, Input};
 use sojimu::bench::plain;
 use sojimu::second::random::{cycle_pair, Random};
@@ -14,13 +14,14 @@ use std::hint::black_box;
 
 fn main() {
     let inputs = Input::all();
-    println!("ns, best of many rounds; a ratio below 1 means that the proved code is faster");
+    println!("ns of one call, the best round; ratio: the median of all rounds, below 1 where the proved code is faster");
     println!("{:8} {:8} {:>9} {:>9} {:>7}   against", "call", "table", "proved", "other", "ratio");
     let mut grown = Vec::new();
     for call in [step, due, make, sound, refusal, read, fit] {
         let rows: Vec<Row> = inputs.iter().map(call).collect();
         rows.iter().for_each(Row::print);
-        grown.push((rows[0].call, rows[2].proved / rows[0].proved, rows[2].other / rows[0].other));
+        let (from, to) = (&rows[0].race, &rows[2].race);
+        grown.push((rows[0].call, to.first / from.first, to.second / from.second));
     }
     hand_written().print();
     longest_fit().print();
@@ -34,15 +35,14 @@ fn main() {
 struct Row {
     call: &'static str,
     table: &'static str,
-    proved: f64,
-    other: f64,
     against: &'static str,
+    race: Race,
 }
 
 impl Row {
     fn print(&self) {
-        let Row { call, table, proved, other, against } = self;
-        println!("{call:8} {table:8} {proved:>9.1} {other:>9.1} {:>7.2}   {against}", proved / other);
+        let Row { call, table, against, race: Race { first, second, ratio } } = self;
+        println!("{call:8} {table:8} {first:>9.1} {second:>9.1} {ratio:>7.2}   {against}");
     }
 
     /// The two contenders in turn; each call of them does `each` steps.
@@ -54,9 +54,10 @@ impl Row {
         proved: &mut dyn FnMut(),
         other: &mut dyn FnMut(),
     ) -> Row {
-        let times = times(&mut [proved, other]);
-        let each = each as f64;
-        Row { call, table, proved: times[0] / each, other: times[1] / each, against }
+        let mut race = race(proved, other);
+        race.first /= each as f64;
+        race.second /= each as f64;
+        Row { call, table, against, race }
     }
 }
 
@@ -193,10 +194,10 @@ fn read(input: &Input) -> Row {
         "second implementation",
         1,
         &mut || {
-            black_box(Table::read(black_box(&input.text))).ok();
+            black_box(&Table::read(black_box(&input.text)));
         },
         &mut || {
-            black_box(text::read(black_box(&input.text))).ok();
+            black_box(&text::read(black_box(&input.text)));
         },
     )
 }

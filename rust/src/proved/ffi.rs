@@ -157,83 +157,100 @@ macro_rules! call {
     };
 }
 
+#[inline]
 pub fn read(text: &[u8]) -> Reading {
     // SAFETY: pointer and length are those of one slice, which is only read.
     unsafe { sojimu_read(text.as_ptr(), text.len()) }
 }
 
+#[inline]
 pub fn dual(table: Table) -> Turned {
     sojimu_dual(table)
 }
 
+#[inline]
 pub fn sound(table: &Table) -> bool {
     // SAFETY: every argument is a value or a reference to a whole column.
     unsafe { call!(sojimu_columns_sound, table) }
 }
 
+#[inline]
 pub fn label_legal(label: u64) -> bool {
     sojimu_label_legal(label)
 }
 
+#[inline]
 pub fn range_legal(kind: u8, low: u32, high: u32) -> bool {
     sojimu_range_legal(kind, low, high)
 }
 
+#[inline]
 pub fn front(bytes: &[u8]) -> Head {
     // SAFETY: pointer and length are those of one slice, which is only read.
     unsafe { sojimu_front(bytes.as_ptr(), bytes.len()) }
 }
 
+#[inline]
 pub fn refusal(bytes: &[u8]) -> u8 {
     // SAFETY: pointer and length are those of one slice, which is only read.
     unsafe { sojimu_refusal(bytes.as_ptr(), bytes.len()) }
 }
 
+#[inline]
 pub fn label_word(bytes: &[u8]) -> u64 {
     // SAFETY: pointer and length are those of one slice, which is only read.
     unsafe { sojimu_label_word(bytes.as_ptr(), bytes.len()) }
 }
 
+#[inline]
 pub fn has_label(bytes: &[u8], label: u64) -> bool {
     // SAFETY: pointer and length are those of one slice, which is only read.
     unsafe { sojimu_has_label(bytes.as_ptr(), bytes.len(), label) }
 }
 
+#[inline]
 pub fn number(bytes: &[u8], at: usize) -> u32 {
     // SAFETY: pointer and length are those of one slice, which is only read.
     unsafe { sojimu_number(bytes.as_ptr(), bytes.len(), at) }
 }
 
+#[inline]
 pub fn make(table: &Table, branch: u16, high: u8, out: &mut [u8]) -> Made {
     // SAFETY: the columns are whole; pointer and length are those of one slice, lent to this call alone.
     unsafe { call!(sojimu_columns_make, table, branch, high, out.as_mut_ptr(), out.len()) }
 }
 
+#[inline]
 pub fn fresh() -> State {
     sojimu_fresh()
 }
 
+#[inline]
 pub fn step(table: &Table, state: &mut State, side: u8, message: &[u8], out: &mut [u8]) -> Verdict {
     let (bytes, length) = (message.as_ptr(), message.len());
     // SAFETY: the columns are whole; each pointer and length are those of one slice; state and output are lent to this call alone.
     unsafe { call!(sojimu_columns_step, table, state, side, bytes, length, out.as_mut_ptr(), out.len()) }
 }
 
+#[inline]
 pub fn turn(table: &Table, state: State) -> u8 {
     // SAFETY: every argument is a value or a reference to a whole column.
     unsafe { call!(sojimu_columns_turn, table, state) }
 }
 
+#[inline]
 pub fn first_length(bytes: &[u8]) -> usize {
     // SAFETY: pointer and length are those of one slice, which is only read.
     unsafe { sojimu_first_length(bytes.as_ptr(), bytes.len()) }
 }
 
+#[inline]
 pub fn due(table: &Table, state: State, device: &[u8], host: &[u8]) -> Due {
     // SAFETY: the columns are whole; each pointer and length are those of one slice, which is only read.
     unsafe { call!(sojimu_columns_due, table, state, device.as_ptr(), device.len(), host.as_ptr(), host.len()) }
 }
 
+#[inline]
 pub fn fit(device: &Table, protocol: &Table, list: &mut [u16]) -> Fit {
     // SAFETY: the columns of both are whole; pointer and length are those of one slice, lent to this call alone.
     unsafe {

@@ -38,6 +38,7 @@ impl Table {
     /// assert_eq!(list[..2], [0, 1]);
     /// # Ok::<(), sojimu::Refusal>(())
     /// ```
+    #[inline]
     pub fn fit(&self, protocol: &Table, list: &mut [u16]) -> Fitting {
         let fit = ffi::fit(self, protocol, list);
         let count = usize::from(fit.count);

@@ -14,6 +14,7 @@ use super::{ffi, Question};
 /// assert_eq!(message::front(front), Ok(19));
 /// assert_eq!(message::front(&front[..13]), Err(Question(13)));
 /// ```
+#[inline]
 pub fn front(bytes: &[u8]) -> Result<usize, Question> {
     let head = ffi::front(bytes);
     match Question::of(head.question) {
@@ -30,6 +31,7 @@ pub fn front(bytes: &[u8]) -> Result<usize, Question> {
 /// assert_eq!(message::refusal(b"Ok\0\0\0\0\0\0\0"), None);
 /// assert_eq!(message::refusal(b"Ok\0\0\0\0\0\0\0!"), Some(Question(15)));
 /// ```
+#[inline]
 pub fn refusal(bytes: &[u8]) -> Option<Question> {
     Question::of(ffi::refusal(bytes))
 }
@@ -42,6 +44,7 @@ pub fn refusal(bytes: &[u8]) -> Option<Question> {
 /// assert_eq!(label_word(b"\0\0\0\0\0\0\x01\x02 and more"), 0x102);
 /// assert_eq!(label_word(b"Ask"), 0);
 /// ```
+#[inline]
 pub fn label_word(bytes: &[u8]) -> u64 {
     ffi::label_word(bytes)
 }
@@ -55,6 +58,7 @@ pub fn label_word(bytes: &[u8]) -> u64 {
 /// assert!(has_label(b"Quit\0\0\0\0\0", quit));
 /// assert!(!has_label(b"Quit", quit));
 /// ```
+#[inline]
 pub fn has_label(bytes: &[u8], label: u64) -> bool {
     ffi::has_label(bytes, label)
 }
@@ -67,6 +71,7 @@ pub fn has_label(bytes: &[u8], label: u64) -> bool {
 /// assert_eq!(number(b"\xFF\xFF\xFF\xFF\x07", 0), 0x7FFF_FFFF);
 /// assert_eq!(number(b"\xFF\xFF\xFF\xFF\x07", 2), 0);
 /// ```
+#[inline]
 pub fn number(bytes: &[u8], at: usize) -> u32 {
     ffi::number(bytes, at)
 }
@@ -79,6 +84,7 @@ pub fn number(bytes: &[u8], at: usize) -> u32 {
 /// assert_eq!(first_length(b"Ok\0\0\0\0\0\0\0Ok"), 9);
 /// assert_eq!(first_length(b"Ok\0\0\0\0\0\0"), 0);
 /// ```
+#[inline]
 pub fn first_length(bytes: &[u8]) -> usize {
     ffi::first_length(bytes)
 }
@@ -91,6 +97,7 @@ pub fn first_length(bytes: &[u8]) -> usize {
 /// assert!(label_legal(u64::from_be_bytes(*b"Temp2\0\0\0")));
 /// assert!(!label_legal(u64::from_be_bytes(*b"temp2\0\0\0")));
 /// ```
+#[inline]
 pub fn label_legal(label: u64) -> bool {
     ffi::label_legal(label)
 }
@@ -103,6 +110,7 @@ pub fn label_legal(label: u64) -> bool {
 /// assert!(range_legal(1, 0x8000_0000, 0x8000_0040));
 /// assert!(!range_legal(1, 0x8000_0000, 0x8000_0041));
 /// ```
+#[inline]
 pub fn range_legal(kind: u8, low: u32, high: u32) -> bool {
     ffi::range_legal(kind, low, high)
 }

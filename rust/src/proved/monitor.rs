@@ -13,6 +13,7 @@ pub enum Party {
 }
 
 impl Party {
+    #[inline]
     fn of(code: u8) -> Option<Party> {
         match code {
             0 => Some(Party::Device),
@@ -57,6 +58,7 @@ impl State {
     ///
     /// assert_eq!(State::fresh(), State { position: 0, standing: Standing::RUNNING });
     /// ```
+    #[inline]
     pub fn fresh() -> State {
         ffi::fresh()
     }
@@ -106,20 +108,20 @@ pub enum Verdict {
 }
 
 impl Verdict {
+    #[inline]
     fn of(verdict: ffi::Verdict) -> Verdict {
-        match (verdict.outcome, Party::of(verdict.party)) {
-            (0, _) => Verdict::Forwarded,
-            (2, Some(party)) => Verdict::Blamed(party, reason(verdict.reason, verdict.field)),
-            _ => Verdict::Refused(Question(verdict.question)),
+        match verdict.outcome {
+            0 => Verdict::Forwarded,
+            1 => Verdict::Refused(Question(verdict.question)),
+            _ => Verdict::Blamed(
+                if verdict.party == 0 { Party::Device } else { Party::Host },
+                match verdict.reason {
+                    1 => Reason::NoLabel,
+                    2 => Reason::OtherKinds,
+                    _ => Reason::OutOfRange(verdict.field),
+                },
+            ),
         }
-    }
-}
-
-fn reason(number: u8, field: u8) -> Reason {
-    match number {
-        1 => Reason::NoLabel,
-        2 => Reason::OtherKinds,
-        _ => Reason::OutOfRange(field),
     }
 }
 
@@ -151,6 +153,7 @@ impl Table {
     /// assert_eq!(after, Verdict::Refused(Question(10)));
     /// # Ok::<(), sojimu::Refusal>(())
     /// ```
+    #[inline]
     pub fn step(&self, state: &mut State, side: Party, message: &[u8], out: &mut [u8]) -> Verdict {
         Verdict::of(ffi::step(self, state, side as u8, message, out))
     }
@@ -166,6 +169,7 @@ impl Table {
     /// assert_eq!(protocol.turn(ended), None);
     /// # Ok::<(), sojimu::Refusal>(())
     /// ```
+    #[inline]
     pub fn turn(&self, state: State) -> Option<Party> {
         Party::of(ffi::turn(self, state))
     }
@@ -182,6 +186,7 @@ impl Table {
     /// assert_eq!((due.side, due.message), (Party::Host, &host[..9]));
     /// # Ok::<(), sojimu::Refusal>(())
     /// ```
+    #[inline]
     pub fn due<'a>(&self, state: State, device: &'a [u8], host: &'a [u8]) -> Due<'a> {
         let due = ffi::due(self, state, device, host);
         match Party::of(due.side) {

@@ -77,6 +77,7 @@ impl Table {
     /// let refusal = Table::read(b"+{!A(int[5..4]).end}").unwrap_err();
     /// assert_eq!((refusal.question, refusal.at), (Question(6), 12));
     /// ```
+    #[inline]
     pub fn read(text: &[u8]) -> Result<Table, Refusal> {
         let reading = ffi::read(text);
         match Question::of(reading.question) {
@@ -94,6 +95,7 @@ impl Table {
     /// assert!(!table.sound());
     /// # Ok::<(), sojimu::Refusal>(())
     /// ```
+    #[inline]
     pub fn sound(&self) -> bool {
         ffi::sound(self)
     }
@@ -107,6 +109,7 @@ impl Table {
     /// assert_eq!(dual.dual()?, table);
     /// # Ok::<(), Box<dyn std::error::Error>>(())
     /// ```
+    #[inline]
     pub fn dual(&self) -> Result<Table, Question> {
         let turned = ffi::dual(self.clone());
         match Question::of(turned.question) {
@@ -129,6 +132,7 @@ impl Table {
     /// assert_eq!(table.make(0, None, &mut out[..13]), Err(Question(16)));
     /// # Ok::<(), sojimu::Refusal>(())
     /// ```
+    #[inline]
     pub fn make(&self, branch: u16, high: Option<u8>, out: &mut [u8]) -> Result<usize, Question> {
         // 255 names no field. A larger number than any branch's fields is refused alike, so a named 255 becomes 254.
         let named = high.map_or(255, |field| field.min(254));
