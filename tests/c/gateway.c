@@ -77,8 +77,9 @@ static bool pump(const struct sojimu_table *protocol, struct conversation *talk)
 {
     uint8_t out[SOJIMU_MESSAGE];
     for (;;) {
-        const struct sojimu_due due = sojimu_due(protocol, talk->state, talk->waiting[SOJIMU_DEVICE], talk->length[SOJIMU_DEVICE],
-                                                 talk->waiting[SOJIMU_HOST], talk->length[SOJIMU_HOST]);
+        const struct sojimu_due due =
+            sojimu_due(protocol, talk->state, talk->waiting[SOJIMU_DEVICE], talk->length[SOJIMU_DEVICE],
+                       talk->waiting[SOJIMU_HOST], talk->length[SOJIMU_HOST]);
         uint8_t *const waiting = talk->waiting[due.side];
         if (due.length == 0)
             return may_go_on(protocol, talk, due.side);
