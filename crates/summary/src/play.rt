@@ -15,7 +15,7 @@ ghost use Rattle.message.specs.Layout.{put};
 ghost use Rattle.monitor.specs.Step.{speaker};
 ghost use Rattle.fit.specs.Machine.{fresh};
 ghost use Rattle.summary.specs.Lines.{sideOf};
-ghost use Rattle.summary.specs.Playing.{heardOf, pairOf, settled, is-device, high-at, line-of, rest, Turn, Heard-by, Said-by, Plays, Ready, Shows};
+ghost use Rattle.summary.specs.Playing.{heardOf, pairOf, settled, is-device, high-at, line-of, rest, Turn, Said-by, Plays, Ready, Shows};
 use crate::write;
 use message::High;
 use message::Made;
