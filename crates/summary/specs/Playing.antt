@@ -75,6 +75,7 @@ kept i j (stop s) = (i, j, blames s)
 
 -- what is said: the message, and its line from a place on
 pub record Said-by (t : Table) (side : Party) (k : ℕ) (h : Option ℕ) (at : ℕ) (message before after : List ℕ) (r : Said) : Type 0 where
+  pub full : length message ≡ 285
   pub short : r .length ≤ 285
   pub message-is : take (r .length) message ≡ made (branch t k) h
   pub at-is : r .at ≡ at + length (move-line (record { side = sideOf side; bytes = made (branch t k) h }) h)
@@ -129,5 +130,5 @@ pub record Opened (d p : D.Table) (before after : List ℕ) (r : ℕ) : Type 0 w
   pub text : List ℕ
   pub compared : Compared (view d) (view p) text
   pub long : r ≡ length text
-  pub within : r ≤ 16384
+  pub within : r ≤ length before
   pub opened : after ≡ put 0 text before

@@ -3,6 +3,8 @@
 // The text opens the lent buffer, which has room for the longest one, and the rest of the buffer is unchanged.
 ghost use mathlib.Core.Path.{_≡_};
 ghost use mathlib.Core.Bool.{true};
+ghost use Prim.Native.Nat.{_≤_};
+ghost use lib.ListN.{length};
 ghost use Rattle.table.specs.View.{soundOf};
 ghost use Rattle.summary.specs.Report.{Written};
 ghost use Rattle.summary.specs.Playing.{Opened};
@@ -29,8 +31,8 @@ pub fn report(protocol: &[u8], device: &[u8], out: &mut [u8; 16384]) -> usize
 }
 
 // The report of two texts that are read.
-fn compare(device: Table, protocol: Table, out: &mut [u8; 16384]) -> usize
-    requires { ⌜ (soundOf device ≡ true) × (soundOf protocol ≡ true) ⌝ }
+fn compare(device: Table, protocol: Table, out: &mut [u8]) -> usize
+    requires { ⌜ (soundOf device ≡ true) × (soundOf protocol ≡ true) × (16384 ≤ length (now out)) ⌝ }
     ensures { λ r. ⌜ Opened device protocol (now (out .entry)) (now (out .exit)) r ⌝ }
 {
     let mut list = [0u16; 1024];

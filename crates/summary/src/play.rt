@@ -123,10 +123,10 @@ fn say(
     k: u16,
     high: High,
     message: &mut [u8; 285],
-    out: &mut [u8; 16384],
+    out: &mut [u8],
     at: usize,
 ) -> Said
-    requires { ⌜ (soundOf t ≡ true) × (exists (view t) k (highOf high) ≡ true) × (at + 24 ≤ 16384) × (length (now message) ≡ 285) ⌝ }
+    requires { ⌜ (soundOf t ≡ true) × (exists (view t) k (highOf high) ≡ true) × (at + 24 ≤ length (now out)) × (length (now message) ≡ 285) ⌝ }
     ensures { λ r. ⌜ Said-by (view t) side k (highOf high) at (now (message .exit)) (now (out .entry)) (now (out .exit)) r ⌝ }
 {
     let m = message::make(t, k, high, message);
@@ -153,10 +153,10 @@ fn exchange(
     side: Party,
     k: u16,
     high: High,
-    out: &mut [u8; 16384],
+    out: &mut [u8],
     at: usize,
 ) -> Played
-    requires { ⌜ (soundOf own ≡ true) × (exists (view own) k (highOf high) ≡ true) × Turn device i side × Turn protocol j side × (at + 24 ≤ 16384) ⌝ }
+    requires { ⌜ (soundOf own ≡ true) × (exists (view own) k (highOf high) ≡ true) × Turn device i side × Turn protocol j side × (at + 24 ≤ length (now out)) ⌝ }
     ensures { λ r. ⌜ Plays (view device) (view protocol) i j (record { side = sideOf side; bytes = made (branch (view own) k) (highOf high) }) (highOf high) at (now (out .entry)) (now (out .exit)) r ⌝ }
 {
     let mut message = [0u8; 285];
@@ -174,10 +174,10 @@ fn turn(
     j: u8,
     k: u16,
     high: High,
-    out: &mut [u8; 16384],
+    out: &mut [u8],
     at: usize,
 ) -> Played
-    requires { ⌜ Ready device protocol i j k (highOf high) × (at + 24 ≤ 16384) ⌝ }
+    requires { ⌜ Ready device protocol i j k (highOf high) × (at + 24 ≤ length (now out)) ⌝ }
     ensures { λ r. ⌜ Plays (view device) (view protocol) i j (line-of (view device) (view protocol) i k (highOf high)) (highOf high) at (now (out .entry)) (now (out .exit)) r ⌝ }
 {
     if device.sort[i as usize] == 1 {
@@ -226,11 +226,11 @@ pub fn moves(
     list: &[u16; 1024],
     count: u16,
     high: High,
-    out: &mut [u8; 16384],
+    out: &mut [u8],
     at: usize,
 ) -> usize
-    requires { ⌜ Shows device protocol (now list) count (highOf high) × (at ≤ 13) ⌝ }
-    ensures { λ r. ⌜ (r ≡ at + length (rest (view device) (view protocol) (fresh (view device) (view protocol)) (take count (now (list .entry))) (highOf high))) × (r ≤ 16384) × (now (out .exit) ≡ put at (rest (view device) (view protocol) (fresh (view device) (view protocol)) (take count (now (list .entry))) (highOf high)) (now (out .entry))) ⌝ }
+    requires { ⌜ Shows device protocol (now list) count (highOf high) × (at ≤ 13) × (16384 ≤ length (now out)) ⌝ }
+    ensures { λ r. ⌜ (r ≡ at + length (rest (view device) (view protocol) (fresh (view device) (view protocol)) (take count (now (list .entry))) (highOf high))) × (r ≤ length (now (out .entry))) × (now (out .exit) ≡ put at (rest (view device) (view protocol) (fresh (view device) (view protocol)) (take count (now (list .entry))) (highOf high)) (now (out .entry))) ⌝ }
 {
     let mut pair = Pair {
         state: 0,
