@@ -277,12 +277,11 @@ module _ (d p : D.Table) (ks : List ℕ) (h : Option ℕ) (sd : soundOf d ≡ tr
       → (x ≡ at + length (rest (view d) (view p) (fresh (view d) (view p)) ks h)) × (x ≤ length before)
       × (after ≡ put at (rest (view d) (view p) (fresh (view d) (view p)) ks h) before)
   playing-end l room {after} {x} e =
-      let fits : at + length (g .written) ≤ length before = omega (arith, g .next-is, g .bound, g .most) in
-      (
+      let fits : at + length (g .written) ≤ length before = omega (arith, g .next-is, g .bound, g .most) in (
         omega (arith, e .0, g .next-is, length-append (g .written) last, ap length whole),
         omega (arith, e .1, g .bound, g .most),
         e .2 ∙ ap₂ (λ x y. put x last y) (g .next-is) (g .out-is) ∙ put-put at (g .written) before fits last
-        ∙ ap (λ x. put at x before) whole,
+            ∙ ap (λ x. put at x before) whole,
       )
     where
       all : n ≡ length ks

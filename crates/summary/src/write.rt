@@ -22,8 +22,9 @@ pub enum Whose {
 }
 
 // `protocol refused 3 at 0`: a whole report.
-pub fn refused(out: &mut [u8; 16384], whose: Whose, question: u8, place: u16) -> usize
-    ensures { λ r. ⌜ (r ≡ length (R.refused (whoseOf whose) question place)) × (r ≤ 16384) × (now (out .exit) ≡ put 0 (R.refused (whoseOf whose) question place) (now (out .entry))) ⌝ }
+pub fn refused(out: &mut [u8], whose: Whose, question: u8, place: u16) -> usize
+    requires { ⌜ 32 ≤ length (now out) ⌝ }
+    ensures { λ r. ⌜ (r ≡ length (R.refused (whoseOf whose) question place)) × (r ≤ 32) × (now (out .exit) ≡ put 0 (R.refused (whoseOf whose) question place) (now (out .entry))) ⌝ }
 {
     let a = subject(out, whose);
     let b = numbered(out, a, b" refused ", question as u16);
@@ -32,15 +33,17 @@ pub fn refused(out: &mut [u8; 16384], whose: Whose, question: u8, place: u16) ->
 }
 
 // `fit 2`: a whole report.
-pub fn fit(out: &mut [u8; 16384], count: u16) -> usize
-    ensures { λ r. ⌜ (r ≡ length (R.fit count)) × (r ≤ 16384) × (now (out .exit) ≡ put 0 (R.fit count) (now (out .entry))) ⌝ }
+pub fn fit(out: &mut [u8], count: u16) -> usize
+    requires { ⌜ 10 ≤ length (now out) ⌝ }
+    ensures { λ r. ⌜ (r ≡ length (R.fit count)) × (r ≤ 10) × (now (out .exit) ≡ put 0 (R.fit count) (now (out .entry))) ⌝ }
 {
     let a = numbered(out, 0, b"fit ", count);
     word(out, a, b"\n")
 }
 
 // `no fit 2`: the first line of such a report.
-pub fn head(out: &mut [u8; 16384], count: u16) -> usize
+pub fn head(out: &mut [u8], count: u16) -> usize
+    requires { ⌜ 13 ≤ length (now out) ⌝ }
     ensures { λ r. ⌜ (r ≡ length (R.line (ascii "no fit " ++ decimal count))) × (r ≤ 13) × (now (out .exit) ≡ put 0 (R.line (ascii "no fit " ++ decimal count)) (now (out .entry))) ⌝ }
 {
     let a = numbered(out, 0, b"no fit ", count);
@@ -48,8 +51,8 @@ pub fn head(out: &mut [u8; 16384], count: u16) -> usize
 }
 
 // A move's line.
-pub fn move_line(out: &mut [u8; 16384], at: usize, side: Party, label: u64, high: High) -> usize
-    requires { ⌜ at + 24 ≤ 16384 ⌝ }
+pub fn move_line(out: &mut [u8], at: usize, side: Party, label: u64, high: High) -> usize
+    requires { ⌜ at + 24 ≤ length (now out) ⌝ }
     ensures { λ r. ⌜ (r ≡ at + length (R.line (R.direction (sideOf side) ++ (R.letters (labelOf label) ++ R.high (highOf high))))) × (now (out .exit) ≡ put at (R.line (R.direction (sideOf side) ++ (R.letters (labelOf label) ++ R.high (highOf high)))) (now (out .entry))) × (highOf high ≡ none → r ≤ at + 13) × (r ≤ at + 24) ⌝ }
 {
     let a = direction(out, at, side);
@@ -59,8 +62,8 @@ pub fn move_line(out: &mut [u8; 16384], at: usize, side: Party, label: u64, high
 }
 
 // The last line.
-pub fn ending(out: &mut [u8; 16384], at: usize, blamed: bool) -> usize
-    requires { ⌜ at + 7 ≤ 16384 ⌝ }
+pub fn ending(out: &mut [u8], at: usize, blamed: bool) -> usize
+    requires { ⌜ at + 7 ≤ length (now out) ⌝ }
     ensures { λ r. ⌜ (r ≡ at + length (cond blamed (R.ending device-blamed) (R.ending jammed))) × (r ≤ at + 7) × (now (out .exit) ≡ put at (cond blamed (R.ending device-blamed) (R.ending jammed)) (now (out .entry))) ⌝ }
 {
     if blamed {
@@ -71,7 +74,8 @@ pub fn ending(out: &mut [u8; 16384], at: usize, blamed: bool) -> usize
 }
 
 // Whose text it is opens a report.
-fn subject(out: &mut [u8; 16384], whose: Whose) -> usize
+fn subject(out: &mut [u8], whose: Whose) -> usize
+    requires { ⌜ 8 ≤ length (now out) ⌝ }
     ensures { λ r. ⌜ (r ≡ length (ascii (whoseOf whose))) × (r ≤ 8) × (now (out .exit) ≡ put 0 (ascii (whoseOf whose)) (now (out .entry))) ⌝ }
 {
     match whose {
@@ -81,8 +85,8 @@ fn subject(out: &mut [u8; 16384], whose: Whose) -> usize
 }
 
 // Which way a move goes.
-fn direction(out: &mut [u8; 16384], at: usize, side: Party) -> usize
-    requires { ⌜ at + 4 ≤ 16384 ⌝ }
+fn direction(out: &mut [u8], at: usize, side: Party) -> usize
+    requires { ⌜ at + 4 ≤ length (now out) ⌝ }
     ensures { λ r. ⌜ (r ≡ at + length (R.direction (sideOf side))) × (r ≤ at + 4) × (now (out .exit) ≡ put at (R.direction (sideOf side)) (now (out .entry))) ⌝ }
 {
     match side {
@@ -92,8 +96,8 @@ fn direction(out: &mut [u8; 16384], at: usize, side: Party) -> usize
 }
 
 // A label's letters, of its word: byte by byte from the top, up to the first 0x00.
-fn letters(out: &mut [u8; 16384], at: usize, label: u64) -> usize
-    requires { ⌜ at + 8 ≤ 16384 ⌝ }
+fn letters(out: &mut [u8], at: usize, label: u64) -> usize
+    requires { ⌜ at + 8 ≤ length (now out) ⌝ }
     ensures { λ r. ⌜ (r ≡ at + length (R.letters (labelOf label))) × (r ≤ at + 8) × (now (out .exit) ≡ put at (R.letters (labelOf label)) (now (out .entry))) ⌝ }
 {
     let mut rest = label;
@@ -107,8 +111,8 @@ fn letters(out: &mut [u8; 16384], at: usize, label: u64) -> usize
 }
 
 // The field that is high, if any is.
-fn field(out: &mut [u8; 16384], at: usize, high: High) -> usize
-    requires { ⌜ at + 11 ≤ 16384 ⌝ }
+fn field(out: &mut [u8], at: usize, high: High) -> usize
+    requires { ⌜ at + 11 ≤ length (now out) ⌝ }
     ensures { λ r. ⌜ (r ≡ at + length (R.high (highOf high))) × (r ≤ at + 11) × (now (out .exit) ≡ put at (R.high (highOf high)) (now (out .entry))) ⌝ }
 {
     match high {
@@ -118,8 +122,8 @@ fn field(out: &mut [u8; 16384], at: usize, high: High) -> usize
 }
 
 // A word and a number.
-fn numbered(out: &mut [u8; 16384], at: usize, bytes: &[u8], n: u16) -> usize
-    requires { ⌜ at + (length (now bytes) + 5) ≤ 16384 ⌝ }
+fn numbered(out: &mut [u8], at: usize, bytes: &[u8], n: u16) -> usize
+    requires { ⌜ at + (length (now bytes) + 5) ≤ length (now out) ⌝ }
     ensures { λ r. ⌜ (r ≡ at + length (now (bytes .entry) ++ decimal n)) × (r ≤ at + (length (now (bytes .entry)) + 5)) × (now (out .exit) ≡ put at (now (bytes .entry) ++ decimal n) (now (out .entry))) ⌝ }
 {
     let a = word(out, at, bytes);
@@ -127,8 +131,8 @@ fn numbered(out: &mut [u8; 16384], at: usize, bytes: &[u8], n: u16) -> usize
 }
 
 // Bytes as they are.
-fn word(out: &mut [u8; 16384], at: usize, bytes: &[u8]) -> usize
-    requires { ⌜ at + length (now bytes) ≤ 16384 ⌝ }
+fn word(out: &mut [u8], at: usize, bytes: &[u8]) -> usize
+    requires { ⌜ at + length (now bytes) ≤ length (now out) ⌝ }
     ensures { λ r. ⌜ (r ≡ at + length (now (bytes .entry))) × (now (out .exit) ≡ put at (now (bytes .entry)) (now (out .entry))) ⌝ }
 {
     let mut k: usize = 0;
@@ -140,8 +144,8 @@ fn word(out: &mut [u8; 16384], at: usize, bytes: &[u8]) -> usize
 }
 
 // A number's decimal digits.
-fn decimal(out: &mut [u8; 16384], at: usize, n: u16) -> usize
-    requires { ⌜ at + 5 ≤ 16384 ⌝ }
+fn decimal(out: &mut [u8], at: usize, n: u16) -> usize
+    requires { ⌜ at + 5 ≤ length (now out) ⌝ }
     ensures { λ r. ⌜ (r ≡ at + length (decimal n)) × (r ≤ at + 5) × (now (out .exit) ≡ put at (decimal n) (now (out .entry))) ⌝ }
 {
     if n < 10 {

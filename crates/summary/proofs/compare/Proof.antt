@@ -34,8 +34,7 @@ head-requires c κs = search needs
 moves-requires : tie.Need-moves-requires
 moves-requires c κs =
     let s = c .before .before .before .before .before .before .before .before .before .before .before .before .before in
-    let k = c .before .before .before .before .before .before .before .before .before .before .check in
-    (
+    let k = c .before .before .before .before .before .before .before .before .before .before .check in (
       shows (s .args .device) (s .args .protocol) (s .pre .0) (s .pre .1) (replicate 1024 0) _ (length-replicate {A = ℕ} 1024 0) (k .result) (k .ensures .0) (c .before .before .before .before .before .before .before .r2 .given .1),
       c .before .before .before .before .head .ensures .1,
       omega (arith, s .pre .2, c .before .before .before .before .head .kept .0),

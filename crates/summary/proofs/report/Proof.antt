@@ -44,8 +44,7 @@ returns-2 c =
 
 compare-requires : tie.Need-compare-requires
 compare-requires c κs =
-    let a = c .before .before .before .before .before .before .before .before .before .args in
-    (
+    let a = c .before .before .before .before .before .before .before .before .before .args in (
       sound-of (a .device .now) _ (c .before .before .before .read2 .ensures) (c .before .if2 .left),
       sound-of (a .protocol .now) _ (c .before .before .before .before .before .before .read .ensures) (c .before .before .before .before .if1 .left),
       search needs,

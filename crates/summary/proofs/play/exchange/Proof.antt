@@ -37,8 +37,7 @@ meet-requires c κs =
     let s = c .before .before .before .before .before .before .before in
     let a = s .args in
     let e = c .before .before .before .say .ensures .message-is in
-    let h = highOf (a .high) in
-    (
+    let h = highOf (a .high) in (
       s .pre .2,
       s .pre .3,
       subst (λ (x : List ℕ). well-formed x ≡ true) (sym e) (formed (a .own) (s .pre .0) (a .k) h (s .pre .1)),
