@@ -2,6 +2,7 @@
 // A message is a label of eight bytes, filled up with 0x00, a field count n, n kinds, n numbers of four bytes, and the texts'
 // bytes. Label, kinds and numbers are read where they stand. A refusal is the question's number, and changes nothing.
 ghost use mathlib.Core.Path.{_≡_};
+ghost use Rattle.table.specs.View.{columns};
 ghost use Rattle.message.specs.Message.{number-at, label-word, has-label, whole, frontOf, refusal};
 ghost use Rattle.message.specs.Make.{highOf, told, making};
 use table::Table;
@@ -10,6 +11,7 @@ mod fields;
 mod write;
 
 // What the front of some bytes tells: the first of 13 and 14 that gets a no, and length 0; or 0, and the length that the message announces.
+#[repr(C)]
 pub struct Head {
     pub question: u8,
     pub length: usize,
@@ -123,32 +125,69 @@ pub fn make(t: Table, branch: u16, high: High, out: &mut [u8]) -> Made
     ensures { λ r. ⌜ told r ≡ making t branch (highOf high) (now (out .entry)) .numbers ⌝ }
     ensures { λ r. ⌜ now (out .exit) ≡ making t branch (highOf high) (now (out .entry)) .buffer ⌝ }
 {
-    if !table::sound(t) {
+    columns_make(
+        t.states,
+        t.branches,
+        &t.sort,
+        &t.owner,
+        &t.target,
+        &t.fields,
+        &t.label,
+        &t.kind,
+        &t.low,
+        &t.high,
+        branch,
+        high,
+        out,
+    )
+}
+
+// The same of a table whose columns are lent: nothing is copied.
+pub fn columns_make<'a>(
+    states: u8,
+    branches: u8,
+    sort: &'a [u8; 32],
+    owner: &'a [u8; 128],
+    target: &'a [u8; 128],
+    fields: &'a [u8; 128],
+    label: &'a [u64; 128],
+    kind: &'a [u8; 512],
+    low: &'a [u32; 512],
+    high: &'a [u32; 512],
+    branch: u16,
+    named: High,
+    out: &mut [u8],
+) -> Made
+    ensures { λ r. ⌜ told r ≡ making (columns states branches (now (sort .entry)) (now (owner .entry)) (now (target .entry)) (now (fields .entry)) (now (label .entry)) (now (kind .entry)) (now (low .entry)) (now (high .entry))) branch (highOf named) (now (out .entry)) .numbers ⌝ }
+    ensures { λ r. ⌜ now (out .exit) ≡ making (columns states branches (now (sort .entry)) (now (owner .entry)) (now (target .entry)) (now (fields .entry)) (now (label .entry)) (now (kind .entry)) (now (low .entry)) (now (high .entry))) branch (highOf named) (now (out .entry)) .buffer ⌝ }
+{
+    if !table::columns_sound(
+        states,
+        branches,
+        sort,
+        owner,
+        target,
+        fields,
+        label,
+        kind,
+        low,
+        high,
+    ) {
         return Made::Refused(9);
     }
     let k = branch as usize;
-    if t.branches as usize <= k {
+    if branches as usize <= k {
         return Made::Refused(18);
     }
-    let count = t.fields[k];
-    if !write::has_field(high, count) {
+    let count = fields[k];
+    if !write::has_field(named, count) {
         return Made::Refused(18);
     }
-    let text = write::text_length(&t.kind, &t.low, &t.high, 4 * k, count, high);
+    let text = write::text_length(kind, low, high, 4 * k, count, named);
     let size = 9 + 5 * (count as usize) + text;
     if out.len() < size {
         return Made::Refused(16);
     }
-    write::message(
-        out,
-        t.label[k],
-        &t.kind,
-        &t.low,
-        &t.high,
-        4 * k,
-        count,
-        high,
-        text,
-    );
+    write::message(out, label[k], kind, low, high, 4 * k, count, named, text);
     Made::Length(size as u16)
 }

@@ -2,8 +2,8 @@
 
 use super::tables::branch_for;
 use super::texts::STRANGE_TOKENS;
-use super::{fields, joined, label, number_of, sound_table, tokens, Limits, Random, LABELS};
-use crate::second::table::{sound, Branch, Sort, Table, MOST_BRANCHES, MOST_FIELDS, MOST_STATES};
+use super::{field, fields, joined, label, number_of, sound_table, tokens, Limits, Random, LABELS};
+use crate::second::table::{sound, Branch, Field, Kind, Sort, Table, MOST_BRANCHES, MOST_FIELDS, MOST_STATES};
 use crate::second::text::{read, LONGEST_PROTOCOL};
 
 /// A device that fits whenever this one does: a range that it sends narrower, one that it takes wider, a branch that it sends
@@ -143,4 +143,64 @@ pub fn text_pair(random: &mut Random) -> (Vec<u8>, Vec<u8>) {
         }
     }
     (joined(random, &device), joined(random, &protocol))
+}
+
+/// The table with one range that reaches one number higher where it sends, one less high where it takes: what then fails, fails
+/// with that field high alone. The same table where no field can be changed so.
+pub fn raised(random: &mut Random, table: &Table) -> Table {
+    let mut new = table.clone();
+    for _ in 0..20 {
+        let b = random.below(new.branches.len());
+        let Some(branch) = new.branches.get_mut(b) else {
+            return new;
+        };
+        let f = random.below(branch.fields.len());
+        if let Some(field) = branch.fields.get_mut(f) {
+            field.high += if new.states[branch.owner] == Sort::Sends { 1 } else { -1 };
+            if sound(&new) {
+                return new;
+            }
+            new = table.clone();
+        }
+    }
+    new
+}
+
+/// Two cycles that agree but where one state of the device meets one of the protocol, if the lengths let them meet. The way there
+/// may take nearly as many moves as there are pairs. The label, the kinds, the least or the greatest number is what differs.
+pub fn cycle_pair(random: &mut Random) -> (Table, Table) {
+    let lengths = [1 + random.below(MOST_STATES), MOST_STATES - random.below(5)];
+    let (speaks, hears) = (*random.pick(&lengths), *random.pick(&lengths));
+    let sort = *random.pick(&[Sort::Sends, Sort::Receives]);
+    let step = Branch { owner: 0, label: label(random, &[]), fields: fields(random, MOST_FIELDS), target: 0 };
+    let kind = *random.pick(&[Kind::Int, Kind::Text]);
+    let tested = Field { kind, low: 5, high: 9 };
+    let odd = Branch { label: label(random, &[step.label]), fields: vec![field(random), tested], ..step.clone() };
+    let mut other = odd.clone();
+    match random.below(4) {
+        0 => other.label = label(random, &[step.label, odd.label]),
+        1 => other.fields[1].kind = if kind == Kind::Int { Kind::Text } else { Kind::Int },
+        2 => other.fields[1].low += 1,
+        _ => other.fields[1].high -= 1,
+    }
+    let (asking, deaf) = (random.below(speaks), random.below(hears));
+    // The speaker says the odd branch in one state; the hearer knows it in all states but one.
+    let speaker = cycle(random, speaks, sort, &step, |state| (state == asking).then(|| odd.clone()));
+    let hearer = cycle(random, hears, sort, &step, |state| Some(if state == deaf { other.clone() } else { odd.clone() }));
+    match sort {
+        Sort::Receives => (hearer, speaker),
+        Sort::End | Sort::Sends => (speaker, hearer),
+    }
+}
+
+/// States of one sort in a cycle, each with a branch to the next and perhaps another; the branches in any order.
+fn cycle(random: &mut Random, length: usize, sort: Sort, step: &Branch, more: impl Fn(usize) -> Option<Branch>) -> Table {
+    let mut table = Table { states: vec![sort; length], branches: Vec::new() };
+    for owner in 0..length {
+        let target = (owner + 1) % length;
+        let all = std::iter::once(step.clone()).chain(more(owner));
+        table.branches.extend(all.map(|branch| Branch { owner, target, ..branch }));
+    }
+    random.shuffle(&mut table.branches);
+    table
 }

@@ -1,0 +1,4 @@
+pub mod Sides
+pub mod Advance
+pub mod Due
+pub mod Answers

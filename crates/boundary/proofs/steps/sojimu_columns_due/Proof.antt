@@ -1,0 +1,53 @@
+-- `boundary::steps::sojimu_columns_due` meets its contract. Assumes nothing.
+use mathlib.Core.Path.{sym, ap, _∙_}
+use Prim.Native.Nat.{ℕ}
+use borrow.Author.Needs.{needs}
+use Rattle.monitor.specs.Due.{awaited, turn}
+use Rattle.boundary.specs.Calls.{due-codes}
+use Rattle.boundary.specs.declared.steps.Due.{Due}
+use Rattle.boundary.proofs.steps.sojimu_columns_due.Statement.{statement}
+use Rattle.boundary.proofs.steps.sojimu_columns_due.Tie as tie
+
+abbrev part : ℕ → ℕ → Due
+part side n = record { side = side; length = n }
+
+returns : tie.Need-returns
+unfolding due-codes turn
+returns c =
+    let x = c .before .before .before in
+    let a = x .before .before .before .before .args in
+    ap (part 0) (c .first-length .ensures)
+    ∙ ap (λ o. due-codes o (a .device .now) (a .host .now))
+    (sym (ap turn (c .before .enum-told .given .1)) ∙ x .columns-turn .ensures ∙ ap (awaited _) (x .before .state-of .ensures))
+
+returns-2 : tie.Need-returns-2
+unfolding due-codes turn
+returns-2 c =
+    let x = c .before .before .before in
+    let a = x .before .before .before .before .args in
+    ap (part 1) (c .first-length2 .ensures)
+    ∙ ap (λ o. due-codes o (a .device .now) (a .host .now))
+    (sym (ap turn (c .before .enum-told2 .given .1)) ∙ x .columns-turn .ensures ∙ ap (awaited _) (x .before .state-of .ensures))
+
+returns-3 : tie.Need-returns-3
+unfolding due-codes turn
+returns-3 c =
+    let x = c .before .before in
+    let a = x .before .before .before .before .args in
+    ap (λ o. due-codes o (a .device .now) (a .host .now))
+    (sym (ap turn (c .enum-told3 .given .1)) ∙ x .columns-turn .ensures ∙ ap (awaited _) (x .before .state-of .ensures))
+
+pub sojimu-columns-due-spec : {M : Type 1} → statement M
+sojimu-columns-due-spec =
+    tie.close
+    (tie.spec
+    (λ c κs. search needs)
+    (λ c κs. search needs)
+    (λ c. search needs)
+    (λ c κs. search needs)
+    (λ c. search needs)
+    (λ c κs. search needs)
+    (λ c. search needs)
+    returns
+    returns-2
+    returns-3)

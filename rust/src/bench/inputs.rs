@@ -1,0 +1,110 @@
+//! Protocols of three sizes, with a conversation that goes round in each.
+
+use crate::proved::{Party, State, Table};
+
+/// A protocol's text, and the branches of a way that comes back to where it began.
+pub struct Input {
+    /// What it is called.
+    pub name: &'static str,
+    /// The protocol as text.
+    pub text: Vec<u8>,
+    /// The branches that lead from the fresh state to the round.
+    pub before: Vec<u16>,
+    /// The branches of one round.
+    pub round: Vec<u16>,
+}
+
+/// 3 states, 3 branches: document 01's P, asked and answered.
+pub fn small() -> Input {
+    let text = b"rec X.+{!Ask(int[0..100]).&{?Ok().X},!Quit().end}".to_vec();
+    Input { name: "small", text, before: vec![], round: vec![0, 1] }
+}
+
+/// 12 states, 20 branches: a scanner that reports profiles.
+pub fn typical() -> Input {
+    let text = b"rec Idle.+{!Hello(text[1..16],int[1..9]).&{
+    ?Accept(int[0..65535]).rec Run.+{
+        !Profile(int[0..4095],int[0..4095],int[0..4095]).&{
+            ?Ack(int[0..65535]).Run,
+            ?Nack(int[0..65535],text[0..32]).Run},
+        !Alarm(int[1..99],text[0..64]).&{?Seen(flag[0..1]).Run},
+        !Status(flag[0..1],int[-50..200]).&{
+            ?Set(int[0..100]).+{!Done().Run,!Fault(int[1..99]).Run},
+            ?Hold(flag[0..1]).&{?Resume().Run,?Stop().+{!Bye().end}},
+            ?Go().Run},
+        !Reel(int[0..999999]).&{?Mark().Run},
+        !Quit().end},
+    ?Reject(int[1..9]).Idle}}"
+        .to_vec();
+    Input { name: "typical", text, before: vec![0, 1], round: vec![2, 3] }
+}
+
+/// 32 states of 4 branches with 4 fields each, the most that a table holds.
+pub fn largest() -> Input {
+    let mut text = b"rec X.".to_vec();
+    choice(&mut text, 31, &mut 0, true);
+    Input { name: "largest", text, before: vec![], round: vec![0, 1, 2, 3] }
+}
+
+/// A choice with so many more choices in it, of which the first is as deep as the limit of what is open lets it be.
+fn choice(text: &mut Vec<u8>, inside: usize, label: &mut usize, sends: bool) {
+    let (sign, mark) = if sends { ('+', '!') } else { ('&', '?') };
+    text.extend(format!("{sign}{{").bytes());
+    let mut left = inside;
+    for branch in 0..4 {
+        let within = left.div_ceil(4 - branch);
+        left -= within;
+        let comma = if branch > 0 { "," } else { "" };
+        let fields = "int[0..9],int[0..9],int[0..9],int[0..9]";
+        text.extend(format!("{comma}{mark}L{label}({fields}).").bytes());
+        *label += 1;
+        if within > 0 {
+            choice(text, within - 1, label, !sends);
+        } else {
+            text.push(b'X');
+        }
+    }
+    text.push(b'}');
+}
+
+impl Input {
+    /// Every size.
+    pub fn all() -> [Input; 3] {
+        [small(), typical(), largest()]
+    }
+
+    /// The protocol's table.
+    pub fn table(&self) -> Table {
+        Table::read(&self.text).expect("a legal text")
+    }
+
+    /// The state at the round's beginning, and the round's messages with their sides.
+    ///
+    /// ```
+    /// for input in sojimu::bench::inputs::Input::all() {
+    ///     let (start, round) = input.conversation();
+    ///     assert_eq!(start.position, input.table().owner[usize::from(input.round[0])]);
+    ///     assert_eq!(round.len(), input.round.len());
+    /// }
+    /// ```
+    pub fn conversation(&self) -> (State, Vec<(Party, Vec<u8>)>) {
+        let table = self.table();
+        let mut state = State::fresh();
+        let mut out = [0; 300];
+        let mut say = |branch: u16, state: &mut State| {
+            let mut message = vec![0; 300];
+            let length = table.make(branch, None, &mut message).expect("a branch");
+            message.truncate(length);
+            let side = table.turn(*state).expect("no end");
+            table.step(state, side, &message, &mut out);
+            (side, message)
+        };
+        for &branch in &self.before {
+            say(branch, &mut state);
+        }
+        let start = state;
+        let round = self.round.iter().map(|&branch| say(branch, &mut state)).collect();
+        assert_eq!(state, start, "{}: the round comes back", self.name);
+        (start, round)
+    }
+}

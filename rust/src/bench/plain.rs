@@ -1,0 +1,221 @@
+//! A monitor over the same tables in plain safe Rust: the questions of document 01, asked as a Rust programmer would.
+
+use crate::proved::{Due, Party, Question, Reason, Standing, State, Table, Verdict, MOST_BRANCHES, MOST_FIELDS, MOST_STATES};
+
+/// Question 9: is the table sound?
+pub fn sound(table: &Table) -> bool {
+    let (states, branches) = (usize::from(table.states), usize::from(table.branches));
+    if !(1..=MOST_STATES).contains(&states) || branches > MOST_BRANCHES {
+        return false;
+    }
+    let (sort, owner, target) = (&table.sort[..states], &table.owner[..branches], &table.target[..branches]);
+    let (fields, label) = (&table.fields[..branches], &table.label[..branches]);
+    if sort.iter().any(|&sort| sort > 2)
+        || owner.iter().chain(target).any(|&state| state >= table.states)
+        || fields.iter().any(|&count| usize::from(count) > MOST_FIELDS)
+    {
+        return false;
+    }
+    let choices = (0..states).filter(|&state| sort[state] != 0).fold(0u32, |set, state| set | 1 << state);
+    let owners = owner.iter().fold(0u32, |set, &state| set | 1 << state);
+    choices == owners
+        && label.iter().all(|&label| legal_label(label))
+        && (0..branches).all(|branch| ranges_legal(table, branch))
+        && labels_differ(owner, label)
+}
+
+/// What is not filling is a letter or digit, the first a capital.
+fn legal_label(label: u64) -> bool {
+    let bytes = label.to_be_bytes();
+    let length = bytes.len() - label.trailing_zeros() as usize / 8;
+    bytes[0].is_ascii_uppercase() && bytes[..length].iter().all(u8::is_ascii_alphanumeric)
+}
+
+fn ranges_legal(table: &Table, branch: usize) -> bool {
+    let places = MOST_FIELDS * branch..MOST_FIELDS * branch + usize::from(table.fields[branch]);
+    let (kind, low, high) = (&table.kind[places.clone()], &table.low[places.clone()], &table.high[places]);
+    let within = |kind, number: u32| holds(kind, number.wrapping_sub(1 << 31) as i32);
+    kind.iter().zip(low).zip(high).all(|((&kind, &low), &high)| low <= high && within(kind, low) && within(kind, high))
+}
+
+fn holds(kind: u8, number: i32) -> bool {
+    match kind {
+        0 => true,
+        1 => (0..=64).contains(&number),
+        2 => (0..=1).contains(&number),
+        _ => false,
+    }
+}
+
+/// Within a state. Few branches are compared in pairs, many sorted.
+fn labels_differ(owner: &[u8], label: &[u64]) -> bool {
+    if label.len() <= 24 {
+        let met = |i: usize| label[..i].iter().zip(&owner[..i]).any(|(&l, &o)| l == label[i] && o == owner[i]);
+        return !(1..label.len()).any(met);
+    }
+    let mut all = [(0, 0); MOST_BRANCHES];
+    let all = &mut all[..label.len()];
+    all.iter_mut().zip(label.iter().zip(owner)).for_each(|(one, (&label, &owner))| *one = (label, owner));
+    all.sort_unstable();
+    all.windows(2).all(|pair| pair[0] != pair[1])
+}
+
+/// A message's parts, where they stand.
+pub struct Parsed<'a> {
+    /// The label's eight bytes.
+    pub label: &'a [u8; 8],
+    /// The kinds.
+    pub kinds: &'a [u8],
+    numbers: &'a [u8],
+    length: usize,
+}
+
+impl Parsed<'_> {
+    /// The fields' numbers.
+    pub fn numbers(&self) -> impl Iterator<Item = i32> + '_ {
+        self.numbers.chunks_exact(4).map(|bytes| i32::from_be_bytes([bytes[0], bytes[1], bytes[2], bytes[3]]))
+    }
+}
+
+/// Questions 13 and 14 of bytes that may go on.
+pub fn front(bytes: &[u8]) -> Result<Parsed<'_>, Question> {
+    let (label, rest) = bytes.split_first_chunk::<8>().ok_or(Question(13))?;
+    let (&count, rest) = rest.split_first().ok_or(Question(13))?;
+    let count = usize::from(count);
+    if !legal_label(u64::from_be_bytes(*label)) || count > MOST_FIELDS || rest.len() < 5 * count {
+        return Err(Question(13));
+    }
+    let (kinds, rest) = rest.split_at(count);
+    let mut parsed = Parsed { label, kinds, numbers: &rest[..4 * count], length: 9 + 5 * count };
+    let mut texts = 0;
+    for (&kind, number) in kinds.iter().zip(parsed.numbers()) {
+        if !holds(kind, number) {
+            return Err(Question(14));
+        }
+        if kind == 1 {
+            texts += number as usize;
+        }
+    }
+    parsed.length += texts;
+    Ok(parsed)
+}
+
+/// Questions 13, 14 and 15.
+pub fn parse(bytes: &[u8]) -> Result<Parsed<'_>, Question> {
+    let parsed = front(bytes)?;
+    if parsed.length == bytes.len() {
+        Ok(parsed)
+    } else {
+        Err(Question(15))
+    }
+}
+
+/// One step.
+#[inline(never)]
+pub fn step(table: &Table, state: &mut State, side: Party, message: &[u8], out: &mut [u8]) -> Verdict {
+    match target(table, *state, side, message, out.len()) {
+        Err(question) => Verdict::Refused(question),
+        Ok(Ok(target)) => {
+            out[..message.len()].copy_from_slice(message);
+            state.position = target;
+            Verdict::Forwarded
+        }
+        Ok(Err(reason)) => {
+            state.standing = match side {
+                Party::Device => Standing::DEVICE_BLAMED,
+                Party::Host => Standing::HOST_BLAMED,
+            };
+            Verdict::Blamed(side, reason)
+        }
+    }
+}
+
+/// The questions of a step, then the judgement.
+fn target(table: &Table, state: State, side: Party, message: &[u8], room: usize) -> Result<Result<u8, Reason>, Question> {
+    if turn(table, state)? != side {
+        return Err(Question(12));
+    }
+    let parsed = parse(message)?;
+    if room < message.len() {
+        return Err(Question(16));
+    }
+    Ok(judge(table, state.position, &parsed))
+}
+
+/// Questions 9, 10 and 11, and then whose turn it is.
+fn turn(table: &Table, state: State) -> Result<Party, Question> {
+    if !sound(table) || state.position >= table.states {
+        return Err(Question(9));
+    }
+    if state.standing != Standing::RUNNING {
+        return Err(Question(10));
+    }
+    match table.sort[usize::from(state.position)] {
+        0 => Err(Question(11)),
+        1 => Ok(Party::Device),
+        _ => Ok(Party::Host),
+    }
+}
+
+fn judge(table: &Table, position: u8, message: &Parsed<'_>) -> Result<u8, Reason> {
+    let branches = usize::from(table.branches);
+    let label = u64::from_be_bytes(*message.label);
+    let mut owners = table.owner[..branches].iter().zip(&table.label[..branches]);
+    let branch = owners.position(|(&owner, &own)| own == label && owner == position).ok_or(Reason::NoLabel)?;
+    let places = MOST_FIELDS * branch..MOST_FIELDS * branch + usize::from(table.fields[branch]);
+    if table.kind[places.clone()] != *message.kinds {
+        return Err(Reason::OtherKinds);
+    }
+    let ranges = table.low[places.clone()].iter().zip(&table.high[places]);
+    let inside = |(number, (&low, &high)): (i32, (&u32, &u32))| (low..=high).contains(&(number as u32).wrapping_add(1 << 31));
+    match message.numbers().zip(ranges).position(|field| !inside(field)) {
+        Some(field) => Err(Reason::OutOfRange(field as u8)),
+        None => Ok(table.target[branch]),
+    }
+}
+
+/// The due message.
+#[inline(never)]
+pub fn due<'a>(table: &Table, state: State, device: &'a [u8], host: &'a [u8]) -> Due<'a> {
+    let Ok(side) = turn(table, state) else {
+        return Due { side: Party::Device, message: &device[..0] };
+    };
+    let waiting = if side == Party::Device { device } else { host };
+    let length = match front(waiting) {
+        Ok(parsed) if parsed.length <= waiting.len() => parsed.length,
+        _ => 0,
+    };
+    Due { side, message: &waiting[..length] }
+}
+
+/// The message of a branch.
+#[inline(never)]
+pub fn make(table: &Table, branch: u16, high: Option<u8>, out: &mut [u8]) -> Result<usize, Question> {
+    if !sound(table) {
+        return Err(Question(9));
+    }
+    let branch = usize::from(branch);
+    if branch >= usize::from(table.branches) || high.is_some_and(|field| field >= table.fields[branch]) {
+        return Err(Question(18));
+    }
+    let places = MOST_FIELDS * branch..MOST_FIELDS * branch + usize::from(table.fields[branch]);
+    let kinds = &table.kind[places.clone()];
+    let mut numbers = [0; MOST_FIELDS];
+    for (field, place) in places.enumerate() {
+        let named = high.map(usize::from) == Some(field);
+        let number = if named { table.high[place] } else { table.low[place] };
+        numbers[field] = number.wrapping_sub(1 << 31) as i32;
+    }
+    let texts: usize = kinds.iter().zip(numbers).filter(|(&kind, _)| kind == 1).map(|(_, number)| number as usize).sum();
+    let length = 9 + 5 * kinds.len() + texts;
+    let out = out.get_mut(..length).ok_or(Question(16))?;
+    let (label, rest) = out.split_at_mut(8);
+    label.copy_from_slice(&table.label[branch].to_be_bytes());
+    rest[0] = kinds.len() as u8;
+    let (arrays, filling) = rest[1..].split_at_mut(5 * kinds.len());
+    let (codes, bytes) = arrays.split_at_mut(kinds.len());
+    codes.copy_from_slice(kinds);
+    bytes.chunks_exact_mut(4).zip(numbers).for_each(|(bytes, number)| bytes.copy_from_slice(&number.to_be_bytes()));
+    filling.fill(0x20);
+    Ok(length)
+}

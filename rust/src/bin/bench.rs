@@ -1,0 +1,239 @@
+//! Prints what the proved code costs next to plain Rust, in nanoseconds and as ratios of one run.
+//!
+//!     cargo run --release --bin bench
+
+use sojimu::bench::by_hand::{self, Place};
+use sojimu::bench::clock::{race, Race};
+use sojimu::bench::inputs::{small, Input};
+use sojimu::bench::plain;
+use sojimu::second::random::label_of;
+use sojimu::second::table::{Branch, Raw, Sort, Table as Lists};
+use sojimu::second::{fit, text};
+use sojimu::{message, Fitting, Party, Table};
+use std::hint::black_box;
+
+fn main() {
+    let inputs = Input::all();
+    println!("ns of one call, the best round; ratio: the median of all rounds, below 1 where the proved code is faster");
+    println!("{:8} {:8} {:>9} {:>9} {:>7}   against", "call", "table", "proved", "other", "ratio");
+    let mut grown = Vec::new();
+    for call in [step, due, make, sound, refusal, read, fit] {
+        let rows: Vec<Row> = inputs.iter().map(call).collect();
+        rows.iter().for_each(Row::print);
+        let (from, to) = (&rows[0].race, &rows[2].race);
+        grown.push((rows[0].call, to.first / from.first, to.second / from.second));
+    }
+    hand_written().print();
+    longest_fit().print();
+    println!("\ngrowth from small to largest: proved, other");
+    for (call, proved, other) in grown {
+        println!("{call:8} {proved:>9.1} {other:>9.1}");
+    }
+}
+
+/// One line: a call on a table, proved and otherwise.
+struct Row {
+    call: &'static str,
+    table: &'static str,
+    against: &'static str,
+    race: Race,
+}
+
+impl Row {
+    fn print(&self) {
+        let Row { call, table, against, race: Race { first, second, ratio } } = self;
+        println!("{call:8} {table:8} {first:>9.1} {second:>9.1} {ratio:>7.2}   {against}");
+    }
+
+    /// The two contenders in turn; each call of them does `each` steps.
+    fn of(
+        call: &'static str,
+        table: &'static str,
+        against: &'static str,
+        each: usize,
+        proved: &mut dyn FnMut(),
+        other: &mut dyn FnMut(),
+    ) -> Row {
+        let mut race = race(proved, other);
+        race.first /= each as f64;
+        race.second /= each as f64;
+        Row { call, table, against, race }
+    }
+}
+
+/// One step, the mean over a round of the conversation.
+fn step(input: &Input) -> Row {
+    let table = &input.table();
+    let (start, round) = &input.conversation();
+    let (mut one, mut other) = (*start, *start);
+    let (mut out, mut room) = ([0; 300], [0; 300]);
+    Row::of(
+        "step",
+        input.name,
+        "plain monitor",
+        round.len(),
+        &mut || {
+            for (side, message) in round {
+                black_box(table.step(black_box(&mut one), *side, black_box(message), &mut out));
+            }
+        },
+        &mut || {
+            for (side, message) in round {
+                black_box(plain::step(table, black_box(&mut other), *side, black_box(message), &mut room));
+            }
+        },
+    )
+}
+
+/// The same on the small table, against the monitor that has no table.
+fn hand_written() -> Row {
+    let input = small();
+    let table = &input.table();
+    let (start, round) = &input.conversation();
+    let (mut state, mut place) = (*start, Place::Asking);
+    let (mut out, mut room) = ([0; 300], [0; 300]);
+    Row::of(
+        "step",
+        input.name,
+        "written by hand, no table",
+        round.len(),
+        &mut || {
+            for (side, message) in round {
+                black_box(table.step(black_box(&mut state), *side, black_box(message), &mut out));
+            }
+        },
+        &mut || {
+            for (side, message) in round {
+                black_box(by_hand::step(black_box(&mut place), *side, black_box(message), &mut room));
+            }
+        },
+    )
+}
+
+/// The due part of two messages that wait on either side.
+fn due(input: &Input) -> Row {
+    let table = &input.table();
+    let (start, round) = input.conversation();
+    let of = |party: Party| -> Vec<u8> {
+        round.iter().filter(|(side, _)| *side == party).flat_map(|(_, message)| message.clone()).collect()
+    };
+    let (device, host): (&[u8], &[u8]) = (&of(Party::Device), &of(Party::Host));
+    Row::of(
+        "due",
+        input.name,
+        "plain monitor",
+        1,
+        &mut || {
+            black_box(table.due(black_box(start), black_box(device), black_box(host)));
+        },
+        &mut || {
+            black_box(plain::due(table, black_box(start), black_box(device), black_box(host)));
+        },
+    )
+}
+
+/// The message of the round's first branch.
+fn make(input: &Input) -> Row {
+    let table = &input.table();
+    let branch = input.round[0];
+    let (mut out, mut room) = ([0; 300], [0; 300]);
+    Row::of(
+        "make",
+        input.name,
+        "plain monitor",
+        1,
+        &mut || {
+            black_box(table.make(black_box(branch), Some(0), &mut out)).ok();
+        },
+        &mut || {
+            black_box(plain::make(table, black_box(branch), Some(0), &mut room)).ok();
+        },
+    )
+}
+
+/// Question 9 alone.
+fn sound(input: &Input) -> Row {
+    let table = &input.table();
+    Row::of(
+        "9",
+        input.name,
+        "plain monitor",
+        1,
+        &mut || {
+            black_box(black_box(table).sound());
+        },
+        &mut || {
+            black_box(plain::sound(black_box(table)));
+        },
+    )
+}
+
+/// Questions 13, 14 and 15 alone.
+fn refusal(input: &Input) -> Row {
+    let (_, round) = input.conversation();
+    let bytes = &round[0].1;
+    Row::of(
+        "13 to 15",
+        input.name,
+        "plain monitor",
+        1,
+        &mut || {
+            black_box(message::refusal(black_box(bytes)));
+        },
+        &mut || {
+            black_box(plain::parse(black_box(bytes))).ok();
+        },
+    )
+}
+
+/// Reading the text.
+fn read(input: &Input) -> Row {
+    Row::of(
+        "read",
+        input.name,
+        "second implementation",
+        1,
+        &mut || {
+            black_box(&Table::read(black_box(&input.text)));
+        },
+        &mut || {
+            black_box(&text::read(black_box(&input.text)));
+        },
+    )
+}
+
+/// The fit check of a protocol with itself.
+fn fit(input: &Input) -> Row {
+    let lists = text::read(&input.text).expect("a legal text");
+    fit_row(input.name, &input.table(), &input.table(), &lists, &lists)
+}
+
+/// The fit check of two cycles, 31 states and 32, which meets every pair.
+fn longest_fit() -> Row {
+    let (device, protocol) = (cycle(31), cycle(32));
+    let columns = |lists: &Lists| Table::from(&Raw::of(lists));
+    fit_row("cycles", &columns(&device), &columns(&protocol), &device, &protocol)
+}
+
+/// States that send the same, each on to the next.
+fn cycle(length: usize) -> Lists {
+    let branch = |owner| Branch { owner, label: label_of(b"Go"), fields: vec![], target: (owner + 1) % length };
+    Lists { states: vec![Sort::Sends; length], branches: (0..length).map(branch).collect() }
+}
+
+fn fit_row(name: &'static str, device: &Table, protocol: &Table, d: &Lists, p: &Lists) -> Row {
+    let (mut list, mut other) = ([0; 1024], [0; 1024]);
+    assert!(matches!(device.fit(protocol, &mut list), Fitting::Fits { .. }));
+    Row::of(
+        "fit",
+        name,
+        "second implementation",
+        1,
+        &mut || {
+            black_box(black_box(device).fit(black_box(protocol), &mut list));
+        },
+        &mut || {
+            black_box(fit::fit(black_box(d), black_box(p), &mut other));
+        },
+    )
+}

@@ -1,0 +1,96 @@
+//! One input in the forms of both implementations, and the answers of the second in the types of the first.
+
+use crate::proved::{Party, Question, Reason, Standing, State, Table, Verdict};
+use crate::second::monitor as second;
+use crate::second::table::{self, Raw};
+
+/// A table as columns, and the same as the second implementation has it; there, columns that are not sound are the empty table.
+pub struct Both {
+    pub proved: Table,
+    pub second: table::Table,
+}
+
+impl Both {
+    pub fn of(raw: &Raw) -> Both {
+        Both { proved: Table::from(raw), second: raw.table() }
+    }
+}
+
+impl From<&Raw> for Table {
+    fn from(raw: &Raw) -> Table {
+        Table {
+            states: raw.states,
+            branches: raw.branches,
+            sort: raw.sort,
+            owner: raw.owner,
+            target: raw.target,
+            fields: raw.fields,
+            label: raw.label,
+            kind: raw.kind,
+            low: raw.low,
+            high: raw.high,
+        }
+    }
+}
+
+impl From<&Table> for Raw {
+    fn from(table: &Table) -> Raw {
+        Raw {
+            states: table.states,
+            branches: table.branches,
+            sort: table.sort,
+            owner: table.owner,
+            target: table.target,
+            fields: table.fields,
+            label: table.label,
+            kind: table.kind,
+            low: table.low,
+            high: table.high,
+        }
+    }
+}
+
+pub fn party(side: second::Side) -> Party {
+    match side {
+        second::Side::Device => Party::Device,
+        second::Side::Host => Party::Host,
+    }
+}
+
+/// The second implementation's state. It has no code that is unknown: such a standing is not running, as those of a blame are.
+pub fn state(state: State) -> second::State {
+    let standing = match state.standing {
+        Standing::RUNNING => second::Standing::Running,
+        Standing::HOST_BLAMED => second::Standing::HostBlamed,
+        _ => second::Standing::DeviceBlamed,
+    };
+    second::State { position: usize::from(state.position), standing }
+}
+
+/// What the state must have become: as it was, code and all, where the second implementation's has not changed.
+pub fn state_after(before: State, after: second::State) -> State {
+    if after == state(before) {
+        return before;
+    }
+    let standing = match after.standing {
+        second::Standing::Running => Standing::RUNNING,
+        second::Standing::DeviceBlamed => Standing::DEVICE_BLAMED,
+        second::Standing::HostBlamed => Standing::HOST_BLAMED,
+    };
+    State { position: after.position as u8, standing }
+}
+
+pub fn verdict(verdict: second::Verdict) -> Verdict {
+    match verdict {
+        second::Verdict::Refused(number) => Verdict::Refused(Question(number)),
+        second::Verdict::Forwarded => Verdict::Forwarded,
+        second::Verdict::Blamed(side, reason) => Verdict::Blamed(
+            party(side),
+            match reason {
+                second::Reason::Label => Reason::NoLabel,
+                second::Reason::Kinds => Reason::OtherKinds,
+                second::Reason::Range(field) => Reason::OutOfRange(field as u8),
+            },
+        ),
+    }
+}

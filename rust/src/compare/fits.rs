@@ -1,0 +1,116 @@
+//! Fit checks. Counts of pairs and of moves are compared; which moves is left free, so they are played on the document's machine.
+
+use super::both::Both;
+use super::{show, Outcome, Tally};
+use crate::proved::{Fitting, Question};
+use crate::second::brute::explore;
+use crate::second::fit::{fit, shows_no_fit, Answer};
+use crate::second::random::{cycle_pair, damaged_table, raised, table_pair, with_noise, Random, COLUMNS};
+use crate::second::table::{Raw, Table};
+
+/// A list's entries before the call.
+const UNTOUCHED: u16 = 0xEEEE;
+
+/// Small tables, whose machine is explored whole: fitting or not, pairs, and the fewest moves.
+pub fn small(random: &mut Random, tally: &mut Tally) -> Outcome {
+    let (device, protocol) = related(random, 5, 7);
+    let answer = pair(random, &device, &protocol, tally)?;
+    let found = explore(&device, &protocol);
+    let explored = match answer {
+        Fitting::Refused(_) => return Ok(()),
+        Fitting::Fits { pairs } => (true, 0, pairs),
+        // The exploration goes on after a failure, and so meets pairs that the check need not.
+        Fitting::Fails { moves, .. } => (false, moves, found.pairs),
+    };
+    tally.same("fit, explored", explored, (found.safe, found.fewest, found.pairs), || {
+        show_pair(&Both::of(&Raw::of(&device)), &Both::of(&Raw::of(&protocol)))
+    })
+}
+
+/// Tables of any size.
+pub fn large(random: &mut Random, tally: &mut Tally) -> Outcome {
+    let (states, branches) = *random.pick(&[(12, 20), (20, 60), (32, 128)]);
+    let (device, protocol) = related(random, states, branches);
+    pair(random, &device, &protocol, tally).map(drop)
+}
+
+/// Cycles of two lengths that first fail where they meet: up to a thousand moves.
+pub fn long(random: &mut Random, tally: &mut Tally) -> Outcome {
+    let (device, protocol) = cycle_pair(random);
+    pair(random, &device, &protocol, tally).map(drop)
+}
+
+/// A pair of tables; now and then the device has a range that reaches too high, or not high enough.
+fn related(random: &mut Random, states: usize, branches: usize) -> (Table, Table) {
+    let (device, protocol) = table_pair(random, states, branches);
+    if random.one_in(4) {
+        return (raised(random, &device), protocol);
+    }
+    (device, protocol)
+}
+
+/// A pair through both, with a list of enough entries or too few, and now and then with a damaged table.
+fn pair(random: &mut Random, device: &Table, protocol: &Table, tally: &mut Tally) -> Result<Fitting, String> {
+    let product = device.states.len() * protocol.states.len();
+    let columns = |random: &mut Random, table: &Table| {
+        let raw = with_noise(random, &Raw::of(table));
+        Both::of(&raw)
+    };
+    let (device, protocol) = (columns(random, device), columns(random, protocol));
+    if random.one_in(8) {
+        check(&device, &protocol, random.below(product), tally)?;
+    }
+    if random.one_in(16) {
+        let column = random.below(COLUMNS);
+        let damaged = Both::of(&damaged_table(random, &Raw::from(&device.proved), column));
+        check(&damaged, &protocol, 1024, tally)?;
+        check(&device, &damaged, 1024, tally)?;
+    }
+    check(&device, &protocol, product + random.below(3), tally)
+}
+
+/// The fit check through both. Of a failing list: as many moves, and on the machine they show that the device does not fit. What
+/// the list had beyond them is unchanged.
+fn check(device: &Both, protocol: &Both, room: usize, tally: &mut Tally) -> Result<Fitting, String> {
+    let mut list = vec![UNTOUCHED; room];
+    let answer = device.proved.fit(&protocol.proved, &mut list);
+    let moves = match answer {
+        Fitting::Fails { moves, .. } => moves,
+        _ => 0,
+    };
+    let (played, rest) = list.split_at(moves.min(room));
+    let untouched = rest.iter().all(|&entry| entry == UNTOUCHED);
+    let (proved, shown) = match answer {
+        Fitting::Refused(Question(number)) => (Answer::Refused(number), true),
+        Fitting::Fits { pairs } => (Answer::Fits(pairs), true),
+        Fitting::Fails { moves, high } => {
+            let high = high.map(usize::from);
+            (Answer::NoFit(moves, None), shows_no_fit(&device.second, &protocol.second, played, high))
+        }
+    };
+    let second = match fit(&device.second, &protocol.second, &mut vec![0; room]) {
+        Answer::NoFit(moves, _) => Answer::NoFit(moves, None),
+        other => other,
+    };
+    count(answer, tally);
+    tally.same("fit", (proved, shown, untouched), (second, true, true), || {
+        format!("room {room}, {answer:?}, list {played:?}\n{}", show_pair(device, protocol))
+    })?;
+    Ok(answer)
+}
+
+fn count(answer: Fitting, tally: &mut Tally) {
+    match answer {
+        Fitting::Refused(question) => tally.asked(Some(question)),
+        Fitting::Fits { .. } => tally.fits += 1,
+        Fitting::Fails { moves, high } => {
+            tally.fails += 1;
+            tally.high += u64::from(high.is_some());
+            tally.most_moves = tally.most_moves.max(moves);
+        }
+    }
+}
+
+fn show_pair(device: &Both, protocol: &Both) -> String {
+    show::table("device", &device.proved) + &show::table("protocol", &protocol.proved)
+}

@@ -1,0 +1,34 @@
+//! Bytes as messages: what their front tells, 13, 14 and 15.
+
+use super::{show, Outcome, Tally};
+use crate::proved::message as proved;
+use crate::proved::Question;
+use crate::second::message::{front, has_label, read};
+use crate::second::random::{label, message_for, sound_table, waiting, Random};
+
+/// Bytes of any sort, through each call that takes bytes alone.
+pub fn case(random: &mut Random, tally: &mut Tally) -> Outcome {
+    let table = sound_table(random, 6, 12);
+    let state = random.below(table.states.len());
+    let bytes = if random.one_in(4) { waiting(random, &table) } else { message_for(random, &table, state) };
+    let show = || show::bytes("message", &bytes);
+
+    let question = proved::refusal(&bytes);
+    tally.asked(question);
+    tally.same("refusal", question, read(&bytes).err().map(Question), show)?;
+    let announced = front(&bytes).map(|message| message.length());
+    tally.same("front", proved::front(&bytes), announced.map_err(Question), show)?;
+    let whole = announced.ok().filter(|&length| length <= bytes.len());
+    tally.same("first_length", proved::first_length(&bytes), whole.unwrap_or(0), show)?;
+
+    let label = label(random, &[]);
+    let word = u64::from_be_bytes(label);
+    tally.same("has_label", proved::has_label(&bytes, word), has_label(&label, &bytes), show)?;
+    let first = bytes.first_chunk().map_or(0, |first| u64::from_be_bytes(*first));
+    tally.same("label_word", proved::label_word(&bytes), first, show)?;
+    tally.same("has_label", proved::has_label(&bytes, first), bytes.len() >= 8, show)?;
+    let at = if random.one_in(8) { random.number() as usize } else { random.below(bytes.len() + 2) };
+    let four = bytes.get(at..).and_then(|rest| rest.first_chunk());
+    let number = four.map_or(0, |four| (i64::from(i32::from_be_bytes(*four)) + (1 << 31)) as u32);
+    tally.same("number", proved::number(&bytes, at), number, show)
+}

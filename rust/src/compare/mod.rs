@@ -1,0 +1,100 @@
+//! Random comparisons of the proved code with the second implementation.
+//!
+//! A comparison is one call put through both, with everything that comes of it: answer, state, every byte of a lent buffer. What
+//! is compared follows from seed, kind and case number alone, so that a disagreement can be shown again by its three names. Where
+//! document 01 leaves the answer free, the moves of a failing fit, they are played on the document's machine instead.
+
+mod both;
+mod conversations;
+mod fits;
+mod messages;
+mod show;
+mod steps;
+mod tables;
+mod tally;
+mod texts;
+
+pub use tally::Tally;
+
+use crate::second::random::Random;
+
+/// What came of a case: nothing, or the input and both answers where they differ.
+type Outcome = Result<(), String>;
+
+/// A kind of comparison.
+pub struct Kind {
+    /// Its name.
+    pub name: &'static str,
+    /// How many cases a run of size 1 has.
+    pub cases: u64,
+    run: fn(&mut Random, &mut Tally) -> Outcome,
+}
+
+/// Every kind of comparison.
+pub const KINDS: [Kind; 8] = [
+    Kind { name: "texts", cases: 100_000, run: texts::case },
+    Kind { name: "tables", cases: 1_500, run: tables::case },
+    Kind { name: "messages", cases: 8_000, run: messages::case },
+    Kind { name: "steps", cases: 30_000, run: steps::case },
+    Kind { name: "conversations", cases: 20, run: conversations::case },
+    Kind { name: "small-fits", cases: 20_000, run: fits::small },
+    Kind { name: "large-fits", cases: 4_000, run: fits::large },
+    Kind { name: "long-fits", cases: 2_000, run: fits::long },
+];
+
+/// A case in which the two differ.
+pub struct Disagreement {
+    /// The kind's name.
+    pub kind: &'static str,
+    /// The seed of the run.
+    pub seed: u64,
+    /// The number of the case.
+    pub case: u64,
+    /// The input and both answers.
+    pub what: String,
+}
+
+impl Disagreement {
+    /// How to show it again.
+    pub fn again(&self) -> String {
+        format!("cargo run --release --bin compare -- --seed {} --kind {} --case {}", self.seed, self.kind, self.case)
+    }
+}
+
+impl Kind {
+    /// The kind of a name.
+    ///
+    /// ```
+    /// assert!(sojimu::compare::Kind::of("texts").is_some());
+    /// assert!(sojimu::compare::Kind::of("text").is_none());
+    /// ```
+    pub fn of(name: &str) -> Option<&'static Kind> {
+        KINDS.iter().find(|kind| kind.name == name)
+    }
+
+    /// One case.
+    pub fn case(&self, seed: u64, case: u64, tally: &mut Tally) -> Result<(), Disagreement> {
+        let mut random = self.random(seed, case);
+        (self.run)(&mut random, tally).map_err(|what| Disagreement { kind: self.name, seed, case, what })
+    }
+
+    /// So many cases, from number 0 on: what was compared, and the cases in which the two differ.
+    ///
+    /// ```
+    /// let kind = sojimu::compare::Kind::of("texts").unwrap();
+    /// let (tally, disagreements) = kind.run(1, 50);
+    /// assert_eq!(tally.comparisons, 50);
+    /// assert!(disagreements.is_empty());
+    /// ```
+    pub fn run(&self, seed: u64, cases: u64) -> (Tally, Vec<Disagreement>) {
+        let mut tally = Tally::default();
+        let disagreements = (0..cases).filter_map(|case| self.case(seed, case, &mut tally).err()).collect();
+        (tally, disagreements)
+    }
+
+    /// The numbers of a case: seed, kind and case number, each driven apart from its neighbours.
+    fn random(&self, seed: u64, case: u64) -> Random {
+        let kind = self.name.bytes().fold(seed, |number, byte| Random::new(number ^ u64::from(byte)).number());
+        Random::new(kind ^ Random::new(case).number())
+    }
+}

@@ -1,0 +1,71 @@
+//! What was compared.
+
+use super::Outcome;
+use crate::proved::{Question, Verdict};
+use std::fmt::Debug;
+
+/// Counts of what was compared, by what the two answered.
+#[derive(Clone, Debug, Default, PartialEq, Eq)]
+pub struct Tally {
+    /// Calls put through both.
+    pub comparisons: u64,
+    /// Refusals by the number of the question.
+    pub questions: [u64; 19],
+    /// Blames by the number of the reason.
+    pub reasons: [u64; 4],
+    /// Messages forwarded.
+    pub forwarded: u64,
+    /// Devices that fit.
+    pub fits: u64,
+    /// Devices that do not.
+    pub fails: u64,
+    /// Of these, such with a field that is high in the last move.
+    pub high: u64,
+    /// The most moves that it took to show that one does not.
+    pub most_moves: usize,
+}
+
+impl Tally {
+    /// Adds the counts of another.
+    pub fn add(&mut self, other: &Tally) {
+        self.comparisons += other.comparisons;
+        self.questions.iter_mut().zip(other.questions).for_each(|(mine, its)| *mine += its);
+        self.reasons.iter_mut().zip(other.reasons).for_each(|(mine, its)| *mine += its);
+        self.forwarded += other.forwarded;
+        self.fits += other.fits;
+        self.fails += other.fails;
+        self.high += other.high;
+        self.most_moves = self.most_moves.max(other.most_moves);
+    }
+
+    /// Compares the two answers to a call; `input` shows what it was given.
+    pub(super) fn same<T: PartialEq + Debug>(
+        &mut self,
+        call: &str,
+        proved: T,
+        second: T,
+        input: impl FnOnce() -> String,
+    ) -> Outcome {
+        self.comparisons += 1;
+        if proved == second {
+            return Ok(());
+        }
+        Err(format!("{call}\n  proved {proved:X?}\n  second {second:X?}\n{}", input()))
+    }
+
+    /// Counts a question that got a no, if one did.
+    pub(super) fn asked(&mut self, question: Option<Question>) {
+        if let Some(Question(number)) = question {
+            self.questions[usize::from(number)] += 1;
+        }
+    }
+
+    /// Counts a verdict.
+    pub(super) fn verdict(&mut self, verdict: Verdict) {
+        match verdict {
+            Verdict::Forwarded => self.forwarded += 1,
+            Verdict::Refused(question) => self.asked(Some(question)),
+            Verdict::Blamed(_, reason) => self.reasons[usize::from(reason.number())] += 1,
+        }
+    }
+}

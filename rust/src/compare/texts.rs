@@ -1,0 +1,38 @@
+//! Texts: legal, nearly legal, with tokens of any length, and any bytes.
+
+use super::show::{self, Columns};
+use super::{Outcome, Tally};
+use crate::proved::{Question, Refusal, Table};
+use crate::second::random::{any_text, Random};
+use crate::second::table::Raw;
+use crate::second::text;
+
+/// One text: question and place, or every entry of the table.
+pub fn case(random: &mut Random, tally: &mut Tally) -> Outcome {
+    let mut bytes = any_text(random);
+    if random.one_in(16) {
+        stretch(random, &mut bytes);
+    }
+    read(&bytes, tally)
+}
+
+fn read(bytes: &[u8], tally: &mut Tally) -> Outcome {
+    let proved = Table::read(bytes).map(Columns);
+    let second = match text::read(bytes) {
+        Ok(table) => Ok(Columns(Table::from(&Raw::of(&table)))),
+        Err((number, at)) => Err(Refusal { question: Question(number), at }),
+    };
+    tally.asked(proved.as_ref().err().map(|refusal| refusal.question));
+    tally.same("read", proved, second, || show::bytes("text", bytes))
+}
+
+/// One byte of the text becomes many: long numbers, names and words, many dots and blanks.
+fn stretch(random: &mut Random, bytes: &mut Vec<u8>) {
+    let place = random.below(bytes.len() + 1);
+    let byte = match bytes.get(place) {
+        Some(&byte) if !random.one_in(4) => byte,
+        _ => *random.pick(b"09.- \nAzx"),
+    };
+    let times = *random.pick(&[2, 3, 9, 10, 11, 19, 20, 21, 64, 300, 5000]);
+    bytes.splice(place..place, std::iter::repeat_n(byte, times));
+}

@@ -1,0 +1,51 @@
+//! The fit check.
+
+use super::{ffi, Question, Table};
+
+/// What the fit check says of a device and a protocol.
+#[derive(Clone, Copy, Debug, PartialEq, Eq, Hash)]
+pub enum Fitting {
+    /// A question got a no: 9 of either table, or 17.
+    Refused(Question),
+    /// The device fits: it is never blamed, and never jammed with the protocol.
+    Fits {
+        /// The pairs of states that can be reached, (0, 0) among them.
+        pairs: usize,
+    },
+    /// It does not: after these moves the device is blamed, or the two are jammed.
+    Fails {
+        /// How many moves stand in the list: branches of whose turn it is, the device's of its own table, the host's of the
+        /// protocol's. Every number is low, and no list is shorter.
+        moves: usize,
+        /// The field that is high in the last move, if one is.
+        high: Option<u8>,
+    },
+}
+
+impl Table {
+    /// Does this device fit the protocol? Asks 9 of both, then 17: the list needs device states times protocol states entries.
+    /// Where it does not fit, the first entries of the list become the moves that show it; else the list is unchanged.
+    ///
+    /// ```
+    /// use sojimu::{Fitting, Table};
+    ///
+    /// let protocol = Table::read(b"rec X.+{!Ping().&{?Pong().X},!Quit().end}")?;
+    /// let mut list = [0; 32 * 32];
+    /// let quits = Table::read(b"+{!Quit().end}")?;
+    /// assert_eq!(quits.fit(&protocol, &mut list), Fitting::Fits { pairs: 2 });
+    /// let other = Table::read(b"+{!Ping().&{?Busy().end}}")?;
+    /// assert_eq!(other.fit(&protocol, &mut list), Fitting::Fails { moves: 2, high: None });
+    /// assert_eq!(list[..2], [0, 1]);
+    /// # Ok::<(), sojimu::Refusal>(())
+    /// ```
+    #[inline]
+    pub fn fit(&self, protocol: &Table, list: &mut [u16]) -> Fitting {
+        let fit = ffi::fit(self, protocol, list);
+        let count = usize::from(fit.count);
+        match fit.outcome {
+            0 => Fitting::Fits { pairs: count },
+            1 => Fitting::Fails { moves: count, high: (fit.high != 255).then_some(fit.high) },
+            _ => Fitting::Refused(Question(fit.question)),
+        }
+    }
+}

@@ -1,0 +1,197 @@
+//! One step of the monitor, whose turn it is, and the due message.
+
+use super::{ffi, Question, Table};
+
+/// A party to the conversation: the side that a message comes from.
+#[repr(u8)]
+#[derive(Clone, Copy, Debug, PartialEq, Eq, PartialOrd, Ord, Hash)]
+pub enum Party {
+    /// The device: it says what a protocol writes with `!`.
+    Device = 0,
+    /// The host: it says what a protocol writes with `?`.
+    Host = 1,
+}
+
+impl Party {
+    #[inline]
+    fn of(code: u8) -> Option<Party> {
+        match code {
+            0 => Some(Party::Device),
+            1 => Some(Party::Host),
+            _ => None,
+        }
+    }
+}
+
+/// The standing of a conversation, as a code: what is none of the three is not running either, and stays as it is.
+#[repr(transparent)]
+#[derive(Clone, Copy, Debug, PartialEq, Eq, PartialOrd, Ord, Hash)]
+pub struct Standing(
+    /// The code.
+    pub u8,
+);
+
+impl Standing {
+    /// Nobody was blamed.
+    pub const RUNNING: Standing = Standing(0);
+    /// The device was blamed, for ever.
+    pub const DEVICE_BLAMED: Standing = Standing(1);
+    /// The host was blamed, for ever.
+    pub const HOST_BLAMED: Standing = Standing(2);
+}
+
+/// The state of one conversation, two bytes. A gateway keeps one for each, and lends it to each step to be advanced.
+#[repr(C)]
+#[derive(Clone, Copy, Debug, PartialEq, Eq, PartialOrd, Ord, Hash)]
+pub struct State {
+    /// The state of the protocol's table that the conversation has come to.
+    pub position: u8,
+    /// Whether it is running.
+    pub standing: Standing,
+}
+
+impl State {
+    /// Of a conversation that begins: position 0, running.
+    ///
+    /// ```
+    /// use sojimu::{Standing, State};
+    ///
+    /// assert_eq!(State::fresh(), State { position: 0, standing: Standing::RUNNING });
+    /// ```
+    #[inline]
+    pub fn fresh() -> State {
+        ffi::fresh()
+    }
+}
+
+impl Default for State {
+    fn default() -> State {
+        State::fresh()
+    }
+}
+
+/// Why a sender is blamed.
+#[derive(Clone, Copy, Debug, PartialEq, Eq, PartialOrd, Ord, Hash)]
+pub enum Reason {
+    /// 1: the position has no branch of this label.
+    NoLabel,
+    /// 2: field count or kinds differ.
+    OtherKinds,
+    /// 3: a number is outside its range; the first such field, counted from 0.
+    OutOfRange(u8),
+}
+
+impl Reason {
+    /// The reason's number in document 01.
+    ///
+    /// ```
+    /// assert_eq!(sojimu::Reason::OutOfRange(0).number(), 3);
+    /// ```
+    pub fn number(self) -> u8 {
+        match self {
+            Reason::NoLabel => 1,
+            Reason::OtherKinds => 2,
+            Reason::OutOfRange(_) => 3,
+        }
+    }
+}
+
+/// What a step says of a message.
+#[derive(Clone, Copy, Debug, PartialEq, Eq, Hash)]
+pub enum Verdict {
+    /// The message's bytes open the output, and the position has moved on.
+    Forwarded,
+    /// A question got a no, and nothing has changed. 12 means that it is the other side's turn: the message may only be early.
+    Refused(Question),
+    /// The protocol forbids the message: its sender is blamed, for ever.
+    Blamed(Party, Reason),
+}
+
+impl Verdict {
+    #[inline]
+    fn of(verdict: ffi::Verdict) -> Verdict {
+        match verdict.outcome {
+            0 => Verdict::Forwarded,
+            1 => Verdict::Refused(Question(verdict.question)),
+            _ => Verdict::Blamed(
+                if verdict.party == 0 { Party::Device } else { Party::Host },
+                match verdict.reason {
+                    1 => Reason::NoLabel,
+                    2 => Reason::OtherKinds,
+                    _ => Reason::OutOfRange(verdict.field),
+                },
+            ),
+        }
+    }
+}
+
+/// The due message: a part of the bytes that wait on one side.
+#[derive(Clone, Copy, Debug, PartialEq, Eq, Hash)]
+pub struct Due<'a> {
+    /// The side whose turn it is; the device where it is nobody's.
+    pub side: Party,
+    /// The first message of that side's bytes, cut at their start. It is empty when none is due.
+    pub message: &'a [u8],
+}
+
+impl Table {
+    /// One step: a message of one side is forwarded into `out`, refused or blamed, and the state advanced. Asks 9 to 16.
+    ///
+    /// ```
+    /// use sojimu::{Party, Question, Reason, State, Table, Verdict};
+    ///
+    /// let protocol = Table::read(b"rec X.+{!Ask(int[0..100]).&{?Ok().X},!Quit().end}")?;
+    /// let mut state = State::fresh();
+    /// let mut out = [0; 300];
+    /// let ok = b"Ok\0\0\0\0\0\0\0";
+    /// let early = protocol.step(&mut state, Party::Host, ok, &mut out);
+    /// assert_eq!(early, Verdict::Refused(Question(12)));
+    /// let ask = b"Ask\0\0\0\0\0\x01\0\0\0\0\x65";
+    /// let blamed = protocol.step(&mut state, Party::Device, ask, &mut out);
+    /// assert_eq!(blamed, Verdict::Blamed(Party::Device, Reason::OutOfRange(0)));
+    /// let after = protocol.step(&mut state, Party::Device, ask, &mut out);
+    /// assert_eq!(after, Verdict::Refused(Question(10)));
+    /// # Ok::<(), sojimu::Refusal>(())
+    /// ```
+    #[inline]
+    pub fn step(&self, state: &mut State, side: Party, message: &[u8], out: &mut [u8]) -> Verdict {
+        Verdict::of(ffi::step(self, state, side as u8, message, out))
+    }
+
+    /// Whose turn it is; nobody's when 9, 10 or 11 would refuse.
+    ///
+    /// ```
+    /// use sojimu::{Party, State, Table};
+    ///
+    /// let protocol = Table::read(b"&{?Start().end}")?;
+    /// assert_eq!(protocol.turn(State::fresh()), Some(Party::Host));
+    /// let ended = State { position: 1, ..State::fresh() };
+    /// assert_eq!(protocol.turn(ended), None);
+    /// # Ok::<(), sojimu::Refusal>(())
+    /// ```
+    #[inline]
+    pub fn turn(&self, state: State) -> Option<Party> {
+        Party::of(ffi::turn(self, state))
+    }
+
+    /// The due message of the bytes that wait on either side: the first of the side whose turn it is. It is empty, at that side's
+    /// start, when 13 or 14 would refuse it or it is not all there; when 9, 10 or 11 would, at the device's start.
+    ///
+    /// ```
+    /// use sojimu::{Party, State, Table};
+    ///
+    /// let protocol = Table::read(b"&{?Start().+{!Done().end}}")?;
+    /// let (device, host) = (b"Done\0\0\0\0\0", b"Start\0\0\0\0Sto");
+    /// let due = protocol.due(State::fresh(), device, host);
+    /// assert_eq!((due.side, due.message), (Party::Host, &host[..9]));
+    /// # Ok::<(), sojimu::Refusal>(())
+    /// ```
+    #[inline]
+    pub fn due<'a>(&self, state: State, device: &'a [u8], host: &'a [u8]) -> Due<'a> {
+        let due = ffi::due(self, state, device, host);
+        match Party::of(due.side) {
+            Some(Party::Host) => Due { side: Party::Host, message: &host[..due.length] },
+            _ => Due { side: Party::Device, message: &device[..due.length] },
+        }
+    }
+}

@@ -1,0 +1,90 @@
+//! The monitors that the benchmarks time are right: on random inputs they agree with the second implementation.
+
+use sojimu::bench::by_hand::{self, Place};
+use sojimu::bench::inputs::{small, Input};
+use sojimu::bench::plain;
+use sojimu::second::random::*;
+use sojimu::second::table::Raw;
+use sojimu::second::{message, monitor, text};
+use sojimu::{Party, Question, Reason, Standing, State, Table, Verdict};
+
+fn party(side: monitor::Side) -> Party {
+    match side {
+        monitor::Side::Device => Party::Device,
+        monitor::Side::Host => Party::Host,
+    }
+}
+
+fn verdict(verdict: monitor::Verdict) -> Verdict {
+    match verdict {
+        monitor::Verdict::Refused(number) => Verdict::Refused(Question(number)),
+        monitor::Verdict::Forwarded => Verdict::Forwarded,
+        monitor::Verdict::Blamed(side, monitor::Reason::Label) => Verdict::Blamed(party(side), Reason::NoLabel),
+        monitor::Verdict::Blamed(side, monitor::Reason::Kinds) => Verdict::Blamed(party(side), Reason::OtherKinds),
+        monitor::Verdict::Blamed(side, monitor::Reason::Range(field)) => {
+            Verdict::Blamed(party(side), Reason::OutOfRange(field as u8))
+        }
+    }
+}
+
+#[test]
+fn the_plain_monitor() {
+    for seed in 0..400 {
+        let mut random = Random::new(seed);
+        let (states, branches) = *random.pick(&[(4, 6), (12, 20), (32, 128)]);
+        let lists = sound_table(&mut random, states, branches);
+        let columns = with_noise(&mut random, &Raw::of(&lists));
+        let table = Table::from(&columns);
+        let (mut state, mut second) = (State::fresh(), monitor::State::fresh());
+        for turn in conversation(&mut random, &lists, 30, 8) {
+            let (mut out, mut other) = (vec![0xEE; turn.room], vec![0xEE; turn.room]);
+            let one = plain::step(&table, &mut state, party(turn.side), &turn.message, &mut out);
+            let wanted = monitor::step(&lists, &mut second, turn.side, &turn.message, &mut other);
+            assert_eq!((one, out), (verdict(wanted), other), "seed {seed}");
+            assert_eq!(usize::from(state.position), second.position);
+            let (device, host) = (waiting(&mut random, &lists), waiting(&mut random, &lists));
+            let part = monitor::due(&lists, &second, &device, &host);
+            let due = plain::due(&table, state, &device, &host);
+            assert_eq!((due.side, due.message.len()), (party(part.side), part.length), "seed {seed}");
+        }
+        for branch in 0..=lists.branches.len() {
+            let high = random.one_in(2).then(|| random.below(4));
+            let (mut out, mut other) = ([0xEE; 300], [0xEE; 300]);
+            let made = plain::make(&table, branch as u16, high.map(|field| field as u8), &mut out);
+            let wanted = message::make(&lists, branch, high, &mut other);
+            assert_eq!((made, out), (wanted.map_err(Question), other), "seed {seed}");
+        }
+        for column in 0..COLUMNS {
+            let damaged = damaged_table(&mut random, &columns, column);
+            assert_eq!(plain::sound(&Table::from(&damaged)), damaged.sound(), "seed {seed}, column {column}");
+        }
+    }
+}
+
+#[test]
+fn the_monitor_written_by_hand() {
+    let lists = text::read(&small().text).unwrap();
+    for seed in 0..400 {
+        let mut random = Random::new(seed);
+        let (mut place, mut second) = (Place::Asking, monitor::State::fresh());
+        for turn in conversation(&mut random, &lists, 30, 6) {
+            let (mut out, mut other) = (vec![0xEE; turn.room], vec![0xEE; turn.room]);
+            let one = by_hand::step(&mut place, party(turn.side), &turn.message, &mut out);
+            let wanted = monitor::step(&lists, &mut second, turn.side, &turn.message, &mut other);
+            assert_eq!((one, out), (verdict(wanted), other), "seed {seed}");
+        }
+    }
+}
+
+#[test]
+fn the_inputs_are_of_the_sizes_they_say() {
+    let sizes = Input::all().map(|input| (input.table().states, input.table().branches));
+    assert_eq!(sizes, [(3, 3), (12, 20), (32, 128)]);
+    let largest = Input::all()[2].table();
+    assert!(largest.fields.iter().all(|&count| count == 4));
+    for input in Input::all() {
+        let (start, round) = input.conversation();
+        assert_eq!(start.standing, Standing::RUNNING);
+        assert!(!round.is_empty());
+    }
+}
