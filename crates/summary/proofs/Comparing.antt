@@ -1,14 +1,14 @@
--- The report from its parts: a refused text; the fit check's answers over two sound tables.
+-- The report from its parts: a refused text; the fit check's answers over two sound tables; and the lent buffer.
 -- Assumes nothing.
 use mathlib.Core.Path.{_≡_, refl, sym, ap, ap₂, _∙_, subst, subst₂}
 use mathlib.Core.Bool.{true}
 use mathlib.Core.List.{List, _++_}
 use mathlib.Core.Option.{Option}
-use Prim.Native.Nat.{ℕ, _+_, _*_, _≤_}
+use Prim.Native.Nat.{ℕ, _+_, _*_, _≤_, _<_}
 use native.Mathlib.Omega.{arith}
 use lib.ListN.{length, take, drop, length-append, length-drop}
-use lib.Seq.{take-at}
-use borrow.Author.Tests.{le-leb}
+use lib.Seq.{take-at, take-length, take-append-seam}
+use borrow.Author.Tests.{le-leb, lt-leb}
 use Rattle.table.specs.View.{view, soundOf}
 use Rattle.table.proofs.Facts.{sorts-of}
 use Rattle.message.specs.Make.{opening, highOf}
@@ -27,7 +27,7 @@ use Rattle.fit.specs.declared.Fitting.the-variants as F
 use Rattle.fit.proofs.Answers.{room-most}
 use Rattle.summary.specs.Ascii.{ascii, decimal}
 use Rattle.summary.specs.Report.{line, fit, refused, no-fit, Compared, fits, fails, Reported, Written}
-use Rattle.summary.specs.Playing.{rest, Shows, Opened}
+use Rattle.summary.specs.Playing.{rest, Shows, Opened, Composed}
 use Rattle.table.specs.declared.Table as D
 
 -- ---- two sound tables
@@ -115,10 +115,10 @@ pub sound-of : (s : List ℕ) (r : Reading) → r ≡ reads s → r .question �
 sound-of s r e q = subst (λ (r : Reading). soundOf (r .table) ≡ true) (sym e) (read-sound s (subst (λ (r : Reading). r .question ≡ 0) e q))
 
 module _ (protocol device before : List ℕ) {after : List ℕ} {x : ℕ} where
-  pub written-protocol : (r : Reading) → r ≡ reads protocol → (r .question ≡ 0 → ⊥) → 32 ≤ length before
+  pub composed-protocol : (r : Reading) → r ≡ reads protocol → (r .question ≡ 0 → ⊥) → 32 ≤ length before
       → (x ≡ length (refused "protocol" (r .question) (r .at))) × (x ≤ 32) × (after ≡ put 0 (refused "protocol" (r .question) (r .at)) before)
-      → Written protocol device before after x
-  written-protocol r e n room w =
+      → Composed protocol device before after x
+  composed-protocol r e n room w =
       let no = subst (λ (r : Reading). r .question ≡ 0 → ⊥) e n in
       record {
         text = refused "protocol" (r .question) (r .at);
@@ -133,10 +133,10 @@ module _ (protocol device before : List ℕ) {after : List ℕ} {x : ℕ} where
         opened = w .2 ∙ put-opening _ before;
       }
 
-  pub written-device : (p : Reading) → p ≡ reads protocol → p .question ≡ 0 → (r : Reading) → r ≡ reads device → (r .question ≡ 0 → ⊥) → 32 ≤ length before
+  pub composed-device : (p : Reading) → p ≡ reads protocol → p .question ≡ 0 → (r : Reading) → r ≡ reads device → (r .question ≡ 0 → ⊥) → 32 ≤ length before
       → (x ≡ length (refused "device" (r .question) (r .at))) × (x ≤ 32) × (after ≡ put 0 (refused "device" (r .question) (r .at)) before)
-      → Written protocol device before after x
-  written-device p f y r e n room w =
+      → Composed protocol device before after x
+  composed-device p f y r e n room w =
       let yes = subst (λ (r : Reading). r .question ≡ 0) f y in
       let no = subst (λ (r : Reading). r .question ≡ 0 → ⊥) e n in
       record {
@@ -152,9 +152,9 @@ module _ (protocol device before : List ℕ) {after : List ℕ} {x : ℕ} where
         opened = w .2 ∙ put-opening _ before;
       }
 
-  pub written-compared : (p : Reading) → p ≡ reads protocol → p .question ≡ 0 → (r : Reading) → r ≡ reads device → r .question ≡ 0
-      → Opened (r .table) (p .table) before after x → Written protocol device before after x
-  written-compared p f y r e z w =
+  pub composed-compared : (p : Reading) → p ≡ reads protocol → p .question ≡ 0 → (r : Reading) → r ≡ reads device → r .question ≡ 0
+      → Opened (r .table) (p .table) before after x → Composed protocol device before after x
+  composed-compared p f y r e z w =
       record {
         text = w .text;
         reported =
@@ -166,4 +166,27 @@ module _ (protocol device before : List ℕ) {after : List ℕ} {x : ℕ} where
         long = w .long;
         within = w .within;
         opened = w .opened ∙ put-opening (w .text) before;
+      }
+
+-- ---- the lent buffer
+
+module _ (protocol device buffer : List ℕ) {zeros after : List ℕ} {x : ℕ} (c : Composed protocol device zeros after x) where
+  -- it does not hold the report
+  pub written-not : length buffer < x → Written protocol device buffer buffer 0
+  written-not short =
+      let no = lt-leb (length (c .text)) (length buffer) (omega (arith, c .long, short)) in
+      record { text = c .text; reported = c .reported; answer = rw no refl; buffer = rw no refl }
+
+  -- the first x bytes of what was composed are the report, and open it
+  pub written-whole : (rest : List ℕ) → (x ≤ length buffer) → rest ≡ take (length (take x after)) (take x after) ++ drop (length (take x after)) buffer
+      → Written protocol device buffer rest x
+  unfolding opening
+  written-whole rest room e =
+      let yes = le-leb (length (c .text)) (length buffer) (omega (arith, c .long, room)) in
+      let whole : take x after ≡ c .text = ap₂ take (c .long) (c .opened) ∙ take-append-seam (c .text) (drop (length (c .text)) zeros) in
+      record {
+        text = c .text;
+        reported = c .reported;
+        answer = rw yes (c .long);
+        buffer = rw yes (e ∙ ap (λ (l : List ℕ). take (length l) l ++ drop (length l) buffer) whole ∙ ap (λ (l : List ℕ). l ++ drop (length (c .text)) buffer) (take-length (c .text)));
       }

@@ -20,7 +20,7 @@ use Rattle.fit.specs.Machine.{Machine, Move, Effect, nothing, forward, stop, St
 use Rattle.fit.specs.Fit.{spoken, shown, named, Failing}
 use Rattle.fit.specs.Answer.{Fewest}
 use Rattle.table.specs.declared.Table as D
-use Rattle.summary.specs.Report.{move-line, move-lines, ending, Compared}
+use Rattle.summary.specs.Report.{move-line, move-lines, ending, Compared, Reported}
 use Rattle.summary.specs.Lines.{sideOf}
 use Rattle.summary.specs.declared.play.Heard.{Heard}
 use Rattle.summary.specs.declared.play.Heard.the-variants as H
@@ -132,3 +132,13 @@ pub record Opened (d p : D.Table) (before after : List ℕ) (r : ℕ) : Type 0 w
   pub long : r ≡ length text
   pub within : r ≤ length before
   pub opened : after ≡ put 0 text before
+
+-- ---- two texts
+
+-- their report opens a buffer that holds it
+pub record Composed (protocol device before after : List ℕ) (r : ℕ) : Type 0 where
+  pub text : List ℕ
+  pub reported : Reported protocol device text
+  pub long : r ≡ length text
+  pub within : r ≤ length before
+  pub opened : after ≡ opening text before

@@ -7,7 +7,7 @@ use mathlib.Core.Bool.{cond}
 use mathlib.Core.List.{List, [], _∷_, _++_}
 use mathlib.Core.Option.{Option, none, some}
 use lib.ListN.{length}
-use lib.Dec.{eqb}
+use lib.Dec.{leb, eqb}
 use Rattle.table.specs.Table.{Table}
 use Rattle.table.specs.View.{view}
 use Rattle.message.specs.Message.{read}
@@ -91,10 +91,10 @@ pub record Reported (protocol device text : List ℕ) : Type 0 where
       reads protocol .question ≡ 0 → reads device .question ≡ 0
       → Compared (view (reads device .table)) (view (reads protocol .table)) text
 
--- what the call promises: the text opens the buffer, the rest of which is unchanged; r is its length
+-- what the call promises: the text opens the buffer, the rest of which is unchanged, and r is its length; where the buffer does
+-- not hold it, r is 0, and the buffer is unchanged. No report is empty
 pub record Written (protocol device before after : List ℕ) (r : ℕ) : Type 0 where
   pub text : List ℕ
   pub reported : Reported protocol device text
-  pub long : r ≡ length text
-  pub within : r ≤ length before
-  pub opened : after ≡ opening text before
+  pub answer : r ≡ cond (leb (length text) (length before)) (length text) 0
+  pub buffer : after ≡ cond (leb (length text) (length before)) (opening text before) before

@@ -1,13 +1,14 @@
 // Document 01's report of two texts, a protocol's and a device's: which of them is refused, or whether the device fits the
 // protocol, with the moves that show it where it does not. The protocol is read first.
-// The text opens the lent buffer, which has room for the longest one, and the rest of the buffer is unchanged.
+// The text opens the lent buffer, the rest of which is unchanged. Where the buffer does not hold it, the answer is 0 and nothing
+// changes. 16,384 bytes hold every report.
 ghost use mathlib.Core.Path.{_≡_};
 ghost use mathlib.Core.Bool.{true};
 ghost use Prim.Native.Nat.{_≤_};
 ghost use lib.ListN.{length};
 ghost use Rattle.table.specs.View.{soundOf};
 ghost use Rattle.summary.specs.Report.{Written};
-ghost use Rattle.summary.specs.Playing.{Opened};
+ghost use Rattle.summary.specs.Playing.{Opened, Composed};
 use fit::Fitting;
 use table::Table;
 use write::Whose;
@@ -15,9 +16,22 @@ use write::Whose;
 mod play;
 mod write;
 
-// The report's length.
-pub fn report(protocol: &[u8], device: &[u8], out: &mut [u8; 16384]) -> usize
+// The report's length, or 0.
+pub fn report(protocol: &[u8], device: &[u8], out: &mut [u8]) -> usize
     ensures { λ r. ⌜ Written (now (protocol .entry)) (now (device .entry)) (now (out .entry)) (now (out .exit)) r ⌝ }
+{
+    let mut text = [0u8; 16384];
+    let n = compose(protocol, device, &mut text);
+    if out.len() < n {
+        return 0;
+    }
+    bytes::copy(&text[..n], out);
+    n
+}
+
+// The report opens a buffer that holds every report.
+fn compose(protocol: &[u8], device: &[u8], out: &mut [u8; 16384]) -> usize
+    ensures { λ r. ⌜ Composed (now (protocol .entry)) (now (device .entry)) (now (out .entry)) (now (out .exit)) r ⌝ }
 {
     let p = text::read(protocol);
     if p.question != 0 {

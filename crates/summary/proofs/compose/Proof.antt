@@ -1,12 +1,12 @@
--- `summary::report` meets its contract. Assumes nothing.
+-- `summary::compose` meets its contract. Assumes nothing.
 use Rattle.summary.specs.Lines.{whoseOf}
 use Rattle.summary.proofs.Places.{small}
-use Rattle.summary.proofs.Comparing.{sound-of, written-protocol, written-device, written-compared}
+use Rattle.summary.proofs.Comparing.{sound-of, composed-protocol, composed-device, composed-compared}
 use borrow.Author.Needs.{needs}
-use Rattle.summary.proofs.report.Statement.{statement}
-use Rattle.summary.proofs.report.Tie as tie
-use Rattle.summary.proofs.report.Reads as reads
-use Rattle.summary.proofs.report.Lts as lts
+use Rattle.summary.proofs.compose.Statement.{statement}
+use Rattle.summary.proofs.compose.Tie as tie
+use Rattle.summary.proofs.compose.Reads as reads
+use Rattle.summary.proofs.compose.Lts as lts
 use Rattle.summary.proofs.compare.Reads as compare-reads
 use Rattle.summary.proofs.write.refused.Reads as refused-reads
 use Rattle.text.proofs.read.Reads as read-reads
@@ -24,7 +24,7 @@ returns : tie.Need-returns
 unfolding whoseOf
 returns c =
     let a = c .before .before .before .before .before .before .before .before .args in
-    written-protocol (a .protocol .now) (a .device .now) (a .out .now) _ (c .before .before .before .before .before .read .ensures) (c .before .before .before .if1 .taken) (search needs) (c .refused .ensures)
+    composed-protocol (a .protocol .now) (a .device .now) (a .out .now) _ (c .before .before .before .before .before .read .ensures) (c .before .before .before .if1 .taken) (search needs) (c .refused .ensures)
 
 read-requires-2 : tie.Need-read-requires-2
 read-requires-2 c κs = search needs
@@ -39,7 +39,7 @@ returns-2 : tie.Need-returns-2
 unfolding whoseOf
 returns-2 c =
     let a = c .before .before .before .before .before .before .before .before .before .before .before .args in
-    written-device (a .protocol .now) (a .device .now) (a .out .now) _ (c .before .before .before .before .before .before .before .before .read .ensures) (c .before .before .before .before .before .before .if1 .left) _ (c .before .before .before .before .before .read2 .ensures) (c .before .before .before .if2 .taken) (search needs)
+    composed-device (a .protocol .now) (a .device .now) (a .out .now) _ (c .before .before .before .before .before .before .before .before .read .ensures) (c .before .before .before .before .before .before .if1 .left) _ (c .before .before .before .before .before .read2 .ensures) (c .before .before .before .if2 .taken) (search needs)
     (c .refused2 .ensures)
 
 compare-requires : tie.Need-compare-requires
@@ -53,10 +53,10 @@ compare-requires c κs =
 returns-3 : tie.Need-returns-3
 returns-3 c =
     let a = c .before .before .before .before .before .before .before .before .before .before .args in
-    written-compared (a .protocol .now) (a .device .now) (a .out .now) _ (c .before .before .before .before .before .before .before .read .ensures) (c .before .before .before .before .before .if1 .left) _ (c .before .before .before .before .read2 .ensures) (c .before .before .if2 .left) (c .compare .ensures)
+    composed-compared (a .protocol .now) (a .device .now) (a .out .now) _ (c .before .before .before .before .before .before .before .read .ensures) (c .before .before .before .before .before .if1 .left) _ (c .before .before .before .before .read2 .ensures) (c .before .before .if2 .left) (c .compare .ensures)
 
-pub report-spec : {M : Type 1} → statement M
-report-spec =
+pub compose-spec : {M : Type 1} → statement M
+compose-spec =
     tie.close
     (tie.spec
     read-requires
