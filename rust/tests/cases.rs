@@ -7,6 +7,7 @@ use sojimu::second::brute::explore;
 use sojimu::second::fit::{fit, shows_no_fit, Answer};
 use sojimu::second::message;
 use sojimu::second::monitor::{due, step, Side, Standing, State, Verdict};
+use sojimu::second::report::report;
 use sojimu::second::table::{Raw, Table};
 use sojimu::second::text;
 use std::path::Path;
@@ -40,6 +41,11 @@ fn monitor() {
 #[test]
 fn fits() {
     run("fits", 180);
+}
+
+#[test]
+fn reports() {
+    run("reports", 120);
 }
 
 /// What the lines of a file have in common: the last `j` table and the last `g` conversation.
@@ -144,6 +150,7 @@ impl Run {
             'w' => due_part(&self.table, given),
             'x' => fit_answer(given),
             'y' => fit_answer(given)[..2].to_vec(),
+            'o' => report_text(given),
             _ => panic!("no such command: {command}"),
         }
     }
@@ -307,4 +314,10 @@ fn fit_answer(given: &[u64]) -> Vec<u64> {
     };
     numbers.extend(list.into_iter().map(u64::from));
     numbers
+}
+
+/// Given: the protocol's text, 100, the device's.
+fn report_text(given: &[u64]) -> Vec<u64> {
+    let parts: Vec<&[u64]> = given.split(|&number| number == NO_BYTE).collect();
+    report(&bytes(parts[0]), &bytes(parts[1])).into_iter().map(u64::from).collect()
 }

@@ -8,7 +8,7 @@ use fit::Fitting;
 use message::High;
 
 // The place of the first 0x100 from place `from` on, or `to`.
-fn divide(given: &[u64; 9216], from: usize, to: usize) -> usize {
+pub fn divide(given: &[u64; 9216], from: usize, to: usize) -> usize {
     let mut at = from;
     while at < to {
         if 9216 <= at {

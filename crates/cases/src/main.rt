@@ -11,6 +11,7 @@ mod fits;
 mod line;
 mod messages;
 mod numbers;
+mod reports;
 mod steps;
 mod tables;
 mod texts;
@@ -51,6 +52,7 @@ fn answer(
         b'q' | b'r' => texts::answer(command, numbers, given, got),
         b's' | b'g' | b'u' | b'w' => steps::answer(command, base, talk, numbers, given, got),
         b'x' | b'y' => fits::answer(command, numbers, given, got),
+        b'o' => reports::answer(numbers, given, got),
         _ => 0,
     }
 }
@@ -178,4 +180,5 @@ fn main() {
     run_file(b"texts");
     run_file(b"monitor");
     run_file(b"fits");
+    run_file(b"reports");
 }

@@ -41,8 +41,8 @@ fn has_label(given: &[u64; 9216], n: usize, got: &mut [u64; 9216]) -> usize {
 
 pub fn make(base: Table, given: &[u64; 9216], n: usize, got: &mut [u64; 9216]) -> usize {
     let t = tables::edited(base, given, 3, n);
-    let mut bytes = [0xEEu8; 1024];
-    let room = (given[2] % 1024) as usize;
+    let mut bytes = [0xEEu8; 16384];
+    let room = (given[2] % 16384) as usize;
     let branch = (given[0] % 65536) as u16;
     let made = message::make(t, branch, high_of(given[1]), &mut bytes[0..room]);
     let at = put_made(made, got);

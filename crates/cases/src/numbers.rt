@@ -34,11 +34,11 @@ pub fn put(got: &mut [u64; 9216], at: usize, value: u64) -> usize
 }
 
 // Puts the first n bytes from place `at` on; the next place.
-pub fn put_bytes(got: &mut [u64; 9216], at: usize, bytes: &[u8; 1024], n: usize) -> usize {
+pub fn put_bytes(got: &mut [u64; 9216], at: usize, bytes: &[u8; 16384], n: usize) -> usize {
     let mut next = at;
     let mut k: usize = 0;
     while k < n {
-        if 1024 <= k {
+        if 16384 <= k {
             return next;
         }
         next = put(got, next, wide(bytes[k]));

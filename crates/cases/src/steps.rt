@@ -79,9 +79,9 @@ fn step(
     requires { ⌜ (2 ≤ from) × (from ≤ 4) ⌝ }
 {
     let mut bytes = [0u8; 9216];
-    let mut out = [0xEEu8; 1024];
+    let mut out = [0xEEu8; 16384];
     let size = numbers::bytes_of(given, from, to, &mut bytes);
-    let room = (given[from - 1] % 1024) as usize;
+    let room = (given[from - 1] % 16384) as usize;
     let side = party_of(given[from - 2]);
     let r = monitor::step(t, s, side, &bytes[..size], &mut out[0..room]);
     let verdict = r.verdict;

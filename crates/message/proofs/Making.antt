@@ -115,7 +115,7 @@ unfolding legal-label
 label-eight [] e = absurd (false≢true e)
 label-eight (c ∷ r) e = ap suc (eqb-true (length r) 7 (both (upper c && label-rest r) (eqb (length r) 7) e .1))
 
-chosen-length : (fs : List Field) (h : Option ℕ) → length (chosen fs h) ≡ length fs
+pub chosen-length : (fs : List Field) (h : Option ℕ) → length (chosen fs h) ≡ length fs
 unfolding chosen
 chosen-length [] h = refl
 chosen-length (f ∷ r) none = ap suc (chosen-length r none)
@@ -139,7 +139,8 @@ ends f e =
     let high = le-leb (f .high) (f .high) (omega arith) in
     record { low-legal = y .0; high-legal = y .1; low-held = join same (join low (x .1)); high-held = join same (join (x .1) high) }
 
-chosen-legal : (fs : List Field) (h : Option ℕ) → every legal-field fs ≡ true → (every legal-value (chosen fs h) ≡ true) × (matched holds fs (chosen fs h) ≡ true)
+-- what is made from legal fields is legal, and within their ranges
+pub chosen-legal : (fs : List Field) (h : Option ℕ) → every legal-field fs ≡ true → (every legal-value (chosen fs h) ≡ true) × (matched holds fs (chosen fs h) ≡ true)
 unfolding chosen every legal-value matched
 chosen-legal [] h e = (refl, refl)
 chosen-legal (f ∷ r) none e =

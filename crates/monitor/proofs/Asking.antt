@@ -27,13 +27,7 @@ use Rattle.monitor.specs.declared.judge.Judged.the-variants.{Forbidden}
 use Rattle.monitor.specs.Step.{running, blame, speaker, is-party, first-no, of-state, of-message, asked, told, reason, outside, Stepping, refusing, blaming, forwarding, judging, stepping, stepped}
 use Rattle.monitor.specs.Leaves.{judgement}
 
--- ---- options and parties
-
-pub some-eq : {A : Type 0} {a b : A} → some a ≡ some b → a ≡ b
-some-eq e = cc
-
-pub none-some : {A X : Type 0} {a : A} → none ≡ some a → X
-none-some e = let z : _≡_ {A = ℕ} 0 1 = cc in absurd (omega arith)
+-- ---- parties
 
 pub turn-its : (side : Party) → is-party side (some side) ≡ true
 unfolding is-party

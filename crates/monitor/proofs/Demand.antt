@@ -16,13 +16,13 @@ use Rattle.table.proofs.Lists.{never, both, join}
 use Rattle.table.proofs.Facts.{Facts, sound-facts}
 use Rattle.message.specs.Message.{Message, read, whole, legal-values, exact, well-formed}
 use Rattle.message.specs.Judge.{Judgement, allowed, no-label, other-kinds, out-of-range, carries, goes, allows, judge}
-use Rattle.message.proofs.Judging.{judge-allows}
+use Rattle.message.proofs.Judging.{none-some, some-eq, judge-allows}
 use Rattle.monitor.specs.declared.Party.{Party}
 use Rattle.monitor.specs.declared.Party.the-variants.{Device, Host}
 use Rattle.monitor.specs.declared.State.{State}
 use Rattle.monitor.specs.Step.{fresh, running, blame, speaker, is-party, first-no, of-state, of-message, asked, Told, refused, blamed, forwarded, reason, outside, Stepping, refusing, blaming, forwarding, stepping, stepped}
 use Rattle.monitor.specs.Conversation.{Sent, Event, event, played, conversation, is-forwarded, forwarded-ones, blamed-else, blamed-first, leads, standing-by, Stands, nobody, Judgeable, refusal-of, Handled, Right, Demand, DemandTwo, Answer, Kept, one-more}
-use Rattle.monitor.proofs.Asking.{some-eq, none-some, turn-its, target-of, Way, refuses, forwards, blames, way}
+use Rattle.monitor.proofs.Asking.{turn-its, target-of, Way, refuses, forwards, blames, way}
 use Rattle.table.specs.Table as T
 use Rattle.table.specs.declared.Table as D
 
@@ -111,7 +111,7 @@ unfolding nobody
 nobody-none none e = refl
 nobody-none (some side) e = never e refl
 
-its-turn : (side : Party) (o : Option Party) → is-party side o ≡ true → o ≡ some side
+pub its-turn : (side : Party) (o : Option Party) → is-party side o ≡ true → o ≡ some side
 unfolding is-party
 its-turn Device none e = never e refl
 its-turn Host none e = never e refl

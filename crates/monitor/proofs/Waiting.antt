@@ -17,13 +17,14 @@ use Rattle.table.proofs.Lists.{both, join, left-fails, right-fails}
 use Rattle.table.proofs.Facts.{sort-of}
 use Rattle.message.specs.Message.{count-of, announced, whole, legal-values, exact, front, frontOf, refusal, well-formed}
 use Rattle.message.specs.declared.Head.{Head}
+use Rattle.message.proofs.Judging.{none-some}
 use Rattle.message.proofs.Reading.{Whole, whole-parts, parts-whole, cut-values, cut-announced, message-well-formed}
 use Rattle.monitor.specs.declared.Party.{Party}
 use Rattle.monitor.specs.declared.Party.the-variants.{Device, Host}
 use Rattle.monitor.specs.declared.State.{State}
 use Rattle.monitor.specs.Step.{speaker, first-no, of-state, asked}
 use Rattle.monitor.specs.Due.{awaited, first-length, due-at, due}
-use Rattle.monitor.proofs.Asking.{none-some, turn-its, opened, formed-then, asked-then}
+use Rattle.monitor.proofs.Asking.{turn-its, opened, formed-then, asked-then}
 use denote.Ref.{RefT}
 
 -- ---- whose turn it is

@@ -103,7 +103,7 @@ abbrev pub allows : Item → ℕ → Bool
 allows (just n) kind = eqb kind n
 allows name kind = eqb kind K.name
 allows label kind = eqb kind K.name
-allows type kind = oneOf (K.end ∷ K.name ∷ K.rec ∷ K.both ∷ K.plus ∷ []) kind
+allows type kind = oneOf (K.end ∷ K.name ∷ K.rec ∷ K.ampersand ∷ K.plus ∷ []) kind
 allows (more σ) kind = oneOf (K.comma ∷ K.right-brace ∷ []) kind
 allows fields kind = oneOf (K.right-paren ∷ K.int ∷ K.text ∷ K.flag ∷ []) kind
 allows field kind = oneOf (K.int ∷ K.text ∷ K.flag ∷ []) kind
@@ -178,10 +178,10 @@ below kinds kind count limit = cond (oneOf kinds kind) (ltb count limit) true
 
 unfoldable pub within : Question
 within s st k =
-    below (K.plus ∷ K.both ∷ K.end ∷ []) (k .kind) (tableIn st .states) states-most
+    below (K.plus ∷ K.ampersand ∷ K.end ∷ []) (k .kind) (tableIn st .states) states-most
     && (below (K.send ∷ K.receive ∷ []) (k .kind) (tableIn st .branches) branches-most
     && (below (K.int ∷ K.text ∷ K.flag ∷ []) (k .kind) (branchIn st .count) fields-most
-    && below (K.plus ∷ K.both ∷ K.rec ∷ []) (k .kind) (length (openIn st)) open-most))
+    && below (K.plus ∷ K.ampersand ∷ K.rec ∷ []) (k .kind) (length (openIn st)) open-most))
 
 -- the questions that are asked at a token, in their order
 abbrev pub questions : List (ℕ × Question)

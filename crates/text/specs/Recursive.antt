@@ -324,7 +324,7 @@ typeBy d inner s k after env t =
     (cond (eqb (k .kind) K.name) (nameType s k after env t)
     (cond (eqb (k .kind) K.rec)
     (cond (eqb d 0) (refused 8 (k .start)) (recType inner s (openRec s (k .end) env (t .states)) t))
-    (cond (oneOf (K.both ∷ K.plus ∷ []) (k .kind))
+    (cond (oneOf (K.ampersand ∷ K.plus ∷ []) (k .kind))
     (cond (eqb d 0) (refused 8 (k .start)) (choiceType inner s k env t))
     (refused (unexpectedAt k .question) (unexpectedAt k .at)))))
 
