@@ -7,7 +7,7 @@ use mathlib.Core.Option.{Option}
 use Prim.Native.Nat.{ℕ, _+_, _*_, _≤_, _<_}
 use native.Mathlib.Omega.{arith}
 use lib.ListN.{length, take, drop, length-append, length-drop}
-use lib.Seq.{take-at, take-length, take-append-seam}
+use lib.Seq.{take-at, length-take-le, take-length, take-append-seam}
 use borrow.Author.Tests.{le-leb, lt-leb}
 use Rattle.table.specs.View.{view, soundOf}
 use Rattle.table.proofs.Facts.{sorts-of}
@@ -171,13 +171,21 @@ module _ (protocol device before : List ℕ) {after : List ℕ} {x : ℕ} where
 -- ---- the lent buffer
 
 module _ (protocol device buffer : List ℕ) {zeros after : List ℕ} {x : ℕ} (c : Composed protocol device zeros after x) where
-  -- it does not hold the report
+  -- the report is among what was composed
+  pub composed-room : x ≤ length after
+  unfolding opening
+  composed-room = omega (arith, c .long, ap length (c .opened), length-append (c .text) (drop (length (c .text)) zeros))
+
+  -- the buffer does not hold it
   pub written-not : length buffer < x → Written protocol device buffer buffer 0
   written-not short =
       let no = lt-leb (length (c .text)) (length buffer) (omega (arith, c .long, short)) in
       record { text = c .text; reported = c .reported; answer = rw no refl; buffer = rw no refl }
 
-  -- the first x bytes of what was composed are the report, and open it
+  -- the buffer holds it
+  pub copied-fits : x ≤ length buffer → length (take x after) ≤ length buffer
+  copied-fits room = subst (λ n. n ≤ length buffer) (sym (length-take-le x after composed-room)) room
+
   pub written-whole : (rest : List ℕ) → (x ≤ length buffer) → rest ≡ take (length (take x after)) (take x after) ++ drop (length (take x after)) buffer
       → Written protocol device buffer rest x
   unfolding opening
