@@ -8,6 +8,7 @@ mod both;
 mod conversations;
 mod fits;
 mod messages;
+mod reports;
 mod show;
 mod steps;
 mod tables;
@@ -31,7 +32,7 @@ pub struct Kind {
 }
 
 /// Every kind of comparison.
-pub const KINDS: [Kind; 8] = [
+pub const KINDS: [Kind; 9] = [
     Kind { name: "texts", cases: 100_000, run: texts::case },
     Kind { name: "tables", cases: 1_500, run: tables::case },
     Kind { name: "messages", cases: 8_000, run: messages::case },
@@ -40,6 +41,7 @@ pub const KINDS: [Kind; 8] = [
     Kind { name: "small-fits", cases: 20_000, run: fits::small },
     Kind { name: "large-fits", cases: 4_000, run: fits::large },
     Kind { name: "long-fits", cases: 2_000, run: fits::long },
+    Kind { name: "reports", cases: 6_000, run: reports::case },
 ];
 
 /// A case in which the two differ.

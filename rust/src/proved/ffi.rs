@@ -136,6 +136,14 @@ unsafe extern "C" {
     fn sojimu_number(bytes: *const u8, length: usize, at: usize) -> u32;
     safe fn sojimu_fresh() -> State;
     fn sojimu_first_length(bytes: *const u8, length: usize) -> usize;
+    fn sojimu_report(
+        protocol: *const u8,
+        protocol_length: usize,
+        device: *const u8,
+        device_length: usize,
+        out: *mut u8,
+        room: usize,
+    ) -> usize;
 }
 
 /// Calls a function over a table's columns, which are lent where they stand.
@@ -271,4 +279,11 @@ pub fn fit(device: &Table, protocol: &Table, list: &mut [u16]) -> Fit {
             list.len(),
         )
     }
+}
+
+#[inline]
+pub fn report(protocol: &[u8], device: &[u8], out: &mut [u8]) -> usize {
+    let (from, length) = (protocol.as_ptr(), protocol.len());
+    // SAFETY: each pointer and length are those of one slice; the output is lent to this call alone.
+    unsafe { sojimu_report(from, length, device.as_ptr(), device.len(), out.as_mut_ptr(), out.len()) }
 }

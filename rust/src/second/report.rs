@@ -35,7 +35,8 @@ fn of_tables(device: &Table, protocol: &Table) -> String {
     }
 }
 
-fn no_fit(device: &Table, protocol: &Table, list: &[u16], high: Option<usize>) -> String {
+/// The text for a list of moves after which the device is blamed or the machine jammed.
+pub fn no_fit(device: &Table, protocol: &Table, list: &[u16], high: Option<usize>) -> String {
     let moves = moves(device, protocol, list, high).unwrap_or_default();
     let mut lines = format!("no fit {}\n", moves.len());
     for (i, one) in moves.iter().enumerate() {
