@@ -53,11 +53,21 @@ fn fits(device: &Table, protocol: &Table, log: &mut dyn Write) -> io::Result<boo
     let mut list = [0; 1024];
     match device.fit(protocol, &mut list) {
         Fitting::Fits { pairs } => writeln!(log, "fits, {pairs} pairs")?,
-        Fitting::Fails { moves, high } => {
-            writeln!(log, "does not fit: branches {:?}, high {high:?}", &list[..moves])?;
+        Fitting::Refused(question) => {
+            writeln!(log, "fit check refused {}", question.0)?;
             return Ok(false);
         }
-        Fitting::Refused(question) => panic!("tables that were read: {question}"),
+        Fitting::Fails { moves, high } => {
+            write!(log, "does not fit:")?;
+            for branch in &list[..moves] {
+                write!(log, " {branch}")?;
+            }
+            if let Some(field) = high {
+                write!(log, ", field {field} high")?;
+            }
+            writeln!(log)?;
+            return Ok(false);
+        }
     }
     Ok(true)
 }

@@ -271,6 +271,34 @@ fn the_fit_check_and_the_machine() {
 }
 
 #[test]
+fn cycles_fail_late_and_raised_ranges_high() {
+    let (mut fitting, mut moves_at_most, mut highs) = (0, 0, 0);
+    for seed in 0..rounds(300) {
+        let mut random = Random::new(seed);
+        let (device, protocol) = cycle_pair(&mut random);
+        assert!(sound(&device) && sound(&protocol), "seed {seed}");
+        let mut list = vec![0; 32 * 32];
+        match fit(&device, &protocol, &mut list) {
+            Answer::Fits(_) => fitting += 1,
+            Answer::NoFit(moves, high) => {
+                moves_at_most = moves_at_most.max(moves);
+                assert!(shows_no_fit(&device, &protocol, &list[..moves], high), "seed {seed}");
+            }
+            Answer::Refused(question) => panic!("seed {seed}: {question}"),
+        }
+        let protocol = sound_table(&mut random, 6, 12);
+        let device = raised(&mut random, &protocol);
+        assert!(sound(&device), "seed {seed}");
+        if let Answer::NoFit(_, high) = fit(&device, &protocol, &mut list) {
+            assert!(high.is_some(), "seed {seed}");
+            highs += 1;
+        }
+    }
+    println!("fitting {fitting}, by at most {moves_at_most} moves, with one high {highs}");
+    assert!(fitting > 50 && moves_at_most > 500 && highs > 50);
+}
+
+#[test]
 fn fitting_changes_fit() {
     for seed in 0..rounds(1000) {
         let mut random = Random::new(seed);

@@ -39,13 +39,16 @@ static bool fits(const struct sojimu_table *device, const struct sojimu_table *p
         printf("fits, %d pairs\n", fit.count);
         return true;
     }
-    printf("does not fit: branches [");
+    if (fit.outcome == SOJIMU_FIT_REFUSED) {
+        printf("fit check refused %d\n", fit.question);
+        return false;
+    }
+    printf("does not fit:");
     for (int i = 0; i < fit.count; i++)
-        printf(i == 0 ? "%d" : ", %d", list[i]);
-    if (fit.high == SOJIMU_ALL_LOW)
-        printf("], high None\n");
-    else
-        printf("], high Some(%d)\n", fit.high);
+        printf(" %d", list[i]);
+    if (fit.high != SOJIMU_ALL_LOW)
+        printf(", field %d high", fit.high);
+    printf("\n");
     return false;
 }
 
@@ -77,8 +80,9 @@ static bool pump(const struct sojimu_table *protocol, struct conversation *talk)
 {
     uint8_t out[SOJIMU_MESSAGE];
     for (;;) {
-        const struct sojimu_due due = sojimu_due(protocol, talk->state, talk->waiting[SOJIMU_DEVICE], talk->length[SOJIMU_DEVICE],
-                                                 talk->waiting[SOJIMU_HOST], talk->length[SOJIMU_HOST]);
+        const struct sojimu_due due =
+            sojimu_due(protocol, talk->state, talk->waiting[SOJIMU_DEVICE], talk->length[SOJIMU_DEVICE],
+                       talk->waiting[SOJIMU_HOST], talk->length[SOJIMU_HOST]);
         uint8_t *const waiting = talk->waiting[due.side];
         if (due.length == 0)
             return may_go_on(protocol, talk, due.side);

@@ -1,15 +1,15 @@
 -- A step in the name of a side whose turn it is not is refused by 9, 10, 11 or 12, so it stands for a code that is no side's.
 -- Assumes nothing.
 use mathlib.Core.Path.{_≡_, refl, sym, ap, _∙_}
-use mathlib.Core.Logic.{_⊎_, inl, inr, ⊎-elim}
-use mathlib.Core.Bool.{Bool, true, false, cond}
+use mathlib.Core.Logic.{⊎-elim}
+use mathlib.Core.Bool.{false}
 use mathlib.Core.List.{List, [], _∷_, _++_}
 use mathlib.Core.Option.{Option, none, some}
 use Prim.Native.Nat.{ℕ, zero, suc}
 use native.Mathlib.Omega.{arith}
 use lib.ListN.{length, getD}
-use Rattle.table.specs.Table.{is-choice, sort}
-use Rattle.table.specs.View.{view, soundAt}
+use Rattle.table.specs.Table.{sort}
+use Rattle.table.specs.View.{view}
 use Rattle.table.specs.declared.Table.{Table}
 use Rattle.monitor.specs.declared.Party.{Party}
 use Rattle.monitor.specs.declared.Party.the-variants.{Device, Host}
@@ -18,9 +18,9 @@ use Rattle.monitor.specs.declared.Reason.{Reason}
 use Rattle.monitor.specs.declared.Reason.the-variants.{NoLabel, OtherKinds, OutOfRange}
 use Rattle.monitor.specs.declared.Verdict.the-variants.{Blamed}
 use Rattle.monitor.specs.declared.Stepped.{Stepped}
-use Rattle.monitor.specs.Step.{running, is-party, speaker, first-no, of-state, told, refusing, stepping, stepped}
+use Rattle.monitor.specs.Step.{is-party, speaker, first-no, of-state, told, refusing, stepping, stepped}
 use Rattle.monitor.specs.Due.{awaited}
-use Rattle.monitor.proofs.Asking.{not-its-turn, asked-first, asked-then, refused-step}
+use Rattle.monitor.proofs.Asking.{zero-or, not-its-turn, stops-there, goes-on, asked-first, asked-then, refused-step}
 use Rattle.boundary.specs.declared.steps.Verdict.{Verdict}
 use Rattle.boundary.specs.Codes.{sideOf, stateOf, stateBytes, verdictCodes}
 use Rattle.boundary.specs.Calls.{said-by, bytes-after, crossing, step-codes}
@@ -39,33 +39,13 @@ not-awaited (some Host) = refl
 not-awaited none = refl
 
 -- 9, 10 and 11, then a no to 12
-out-of-turn : Table → State → ℕ
+abbrev out-of-turn : Table → State → ℕ
 out-of-turn t s = first-no (of-state t s ++ ((12, false) ∷ []))
 
--- three questions, and what comes of three times yes
-abbrev three : Bool → Bool → Bool → ℕ → ℕ
-three a b c n = cond a (cond b (cond c n 11) 10) 9
-
 module _ (t : Table) (s : State) where
-  first-of-three : (first-no (of-state t s) ≡ 0 → ⊥) → out-of-turn t s ≡ first-no (of-state t s)
-  unfolding out-of-turn first-no of-state
-  first-of-three n = by (soundAt t (s .position)) (running (s .standing)) (is-choice (sort (view t) (s .position))) n
-    where
-      by : (a b c : Bool) → (three a b c 0 ≡ 0 → ⊥) → three a b c 12 ≡ three a b c 0
-      by true true true n = absurd (n refl)
-      by true true false n = refl
-      by true false c n = refl
-      by false b c n = refl
-
   then-twelve : first-no (of-state t s) ≡ 0 → out-of-turn t s ≡ 12
-  unfolding out-of-turn first-no of-state
-  then-twelve e = by (soundAt t (s .position)) (running (s .standing)) (is-choice (sort (view t) (s .position))) e
-    where
-      by : (a b c : Bool) → three a b c 0 ≡ 0 → three a b c 12 ≡ 12
-      by true true true e = refl
-      by true true false e = absurd (omega (arith, e))
-      by true false c e = absurd (omega (arith, e))
-      by false b c e = absurd (omega (arith, e))
+  unfolding first-no
+  then-twelve = goes-on t s ((12, false) ∷ [])
 
   module _ (side : Party) (message out : List ℕ) (h : is-party side (awaited t s) ≡ false) where
     -- the speaker at the position is not this side
@@ -76,13 +56,9 @@ module _ (t : Table) (s : State) where
     out-of-turn-step : stepping t s side message out ≡ refusing (out-of-turn t s) s out
     out-of-turn-step = ⊎-elim no yes (zero-or (first-no (of-state t s)))
       where
-        zero-or : (n : ℕ) → (n ≡ 0 → ⊥) ⊎ (n ≡ 0)
-        zero-or zero = inr refl
-        zero-or (suc n) = inl (λ e. omega arith)
-
         no : (first-no (of-state t s) ≡ 0 → ⊥) → stepping t s side message out ≡ refusing (out-of-turn t s) s out
         no n =
-            rw (first-of-three n)
+            rw (stops-there t s ((12, false) ∷ []) (first-no (of-state t s)) refl n)
             (refused-step t s side message out (first-no (of-state t s)) (asked-first t s side message (length out) (first-no (of-state t s)) refl n) n)
 
         yes : first-no (of-state t s) ≡ 0 → stepping t s side message out ≡ refusing (out-of-turn t s) s out
@@ -92,7 +68,7 @@ module _ (t : Table) (s : State) where
             (asked-then t s side message (length out) e ∙ not-its-turn (sort (view t) (s .position)) side message (length out) (not-speaking e)) (λ z. omega arith))
 
   pub stands-in : (side : Option Party) (message out : List ℕ) → said-by side t s message out ≡ stepping t s (stand-in side (awaited t s)) message out
-  unfolding said-by stand-in out-of-turn
+  unfolding said-by stand-in
   stands-in (some side) message out = refl
   stands-in none message out = sym (out-of-turn-step (stand-in none (awaited t s)) message out (not-awaited (awaited t s)))
 

@@ -3,7 +3,7 @@
 use mathlib.Core.Path.{_≡_, refl, sym, ap, _∙_}
 use mathlib.Core.Logic.{_⊎_, inl, inr, ⊎-elim}
 use mathlib.Core.Bool.{Bool, true, false, _&&_, cond}
-use mathlib.Core.List.{List}
+use mathlib.Core.List.{List, _++_}
 use mathlib.Core.Option.{Option, none, some}
 use Prim.Native.Nat.{ℕ, zero, suc, _≤_, _<_}
 use native.Mathlib.Omega.{arith}
@@ -137,11 +137,16 @@ module _ (sort : Sort) (side : Party) (message : List ℕ) (room : ℕ) where
 
 -- ---- all of them
 
-module _ (t : Table) (s : State) (side : Party) (message : List ℕ) (room : ℕ) where
-  pub asked-first : (q : ℕ) → q ≡ first-no (of-state t s) → (q ≡ 0 → ⊥) → asked t s side message room ≡ q
-  unfolding asked of-state of-message first-no
-  asked-first q e n =
-      by (soundAt t (s .position)) (running (s .standing)) (is-choice (sort (view t) (s .position))) (first-no (of-message (sort (view t) (s .position)) side message room)) (λ z. n (e ∙ z)) ∙ sym e
+pub zero-or : (n : ℕ) → (n ≡ 0 → ⊥) ⊎ (n ≡ 0)
+zero-or zero = inr refl
+zero-or (suc n) = inl (λ e. omega arith)
+
+-- 9, 10 and 11, and whatever is asked after them
+module _ (t : Table) (s : State) (rest : List (ℕ × Bool)) where
+  pub stops-there : (q : ℕ) → q ≡ first-no (of-state t s) → (q ≡ 0 → ⊥) → first-no (of-state t s ++ rest) ≡ q
+  unfolding of-state first-no
+  stops-there q e n =
+      by (soundAt t (s .position)) (running (s .standing)) (is-choice (sort (view t) (s .position))) (first-no rest) (λ z. n (e ∙ z)) ∙ sym e
     where
       by : (a b c : Bool) (n : ℕ) → (three a b c 0 ≡ 0 → ⊥) → three a b c n ≡ three a b c 0
       by true true true n h = absurd (h refl)
@@ -149,15 +154,24 @@ module _ (t : Table) (s : State) (side : Party) (message : List ℕ) (room : ℕ
       by true false c n h = refl
       by false b c n h = refl
 
-  pub asked-then : first-no (of-state t s) ≡ 0 → asked t s side message room ≡ first-no (of-message (sort (view t) (s .position)) side message room)
-  unfolding asked of-state of-message first-no
-  asked-then e = by (soundAt t (s .position)) (running (s .standing)) (is-choice (sort (view t) (s .position))) (first-no (of-message (sort (view t) (s .position)) side message room)) e
+  pub goes-on : first-no (of-state t s) ≡ 0 → first-no (of-state t s ++ rest) ≡ first-no rest
+  unfolding of-state first-no
+  goes-on e = by (soundAt t (s .position)) (running (s .standing)) (is-choice (sort (view t) (s .position))) (first-no rest) e
     where
       by : (a b c : Bool) (n : ℕ) → three a b c 0 ≡ 0 → three a b c n ≡ n
       by true true true n h = refl
       by true true false n h = absurd (omega (arith, h))
       by true false c n h = absurd (omega (arith, h))
       by false b c n h = absurd (omega (arith, h))
+
+module _ (t : Table) (s : State) (side : Party) (message : List ℕ) (room : ℕ) where
+  pub asked-first : (q : ℕ) → q ≡ first-no (of-state t s) → (q ≡ 0 → ⊥) → asked t s side message room ≡ q
+  unfolding asked
+  asked-first = stops-there t s (of-message (sort (view t) (s .position)) side message room)
+
+  pub asked-then : first-no (of-state t s) ≡ 0 → asked t s side message room ≡ first-no (of-message (sort (view t) (s .position)) side message room)
+  unfolding asked
+  asked-then = goes-on t s (of-message (sort (view t) (s .position)) side message room)
 
   -- by the sort's code
   pub asked-message : first-no (of-state t s) ≡ 0
@@ -205,10 +219,6 @@ module _ (t : Table) (s : State) (side : Party) (message out : List ℕ) where
   unfolding judging target-of
   way = ⊎-elim (λ e. no e) (λ e. yes e) (zero-or (asked t s side message (length out)))
     where
-      zero-or : (n : ℕ) → (n ≡ 0 → ⊥) ⊎ (n ≡ 0)
-      zero-or zero = inr refl
-      zero-or (suc n) = inl (λ e. omega arith)
-
       no : (asked t s side message (length out) ≡ 0 → ⊥) → Way (stepping t s side message out)
       no n = rw (refused-step (asked t s side message (length out)) refl n) (refuses (asked t s side message (length out)) refl n)
 

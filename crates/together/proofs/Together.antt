@@ -35,7 +35,7 @@ never e = let z : _≡_ {A = ℕ} 0 1 = cc in clash z
 module _ (p : D.Table) (sound : soundOf p ≡ true) (j : ℕ) (inside : j < p .states) (side : Party) (bytes : List ℕ) (formed : well-formed bytes ≡ true)
     (out : List ℕ) (room : length bytes ≤ length out) where
   -- 9, 10, 13 to 16 get a yes: 11 and 12 are left
-  asks : asked p (at j) side bytes (length out) ≡ cond (T.is-choice (T.sort (view p) j)) (cond (is-party side (speaker (T.sort (view p) j))) 0 12) 11
+  pub asks : asked p (at j) side bytes (length out) ≡ cond (T.is-choice (T.sort (view p) j)) (cond (is-party side (speaker (T.sort (view p) j))) 0 12) 11
   unfolding asked first-no of-state of-message soundAt running well-formed
   asks =
       let f = both (whole bytes && legal-values bytes) (exact bytes) formed in
@@ -46,7 +46,7 @@ module _ (p : D.Table) (sound : soundOf p ≡ true) (j : ℕ) (inside : j < p .s
   unfolding stepping
   no-turn q e n = rw (e, ne-eqb q 0 n)
 
-  turn : asked p (at j) side bytes (length out) ≡ 0 → stepping p (at j) side bytes out ≡ judging (judge (view p) j (read bytes)) (at j) side bytes out
+  pub turn : asked p (at j) side bytes (length out) ≡ 0 → stepping p (at j) side bytes out ≡ judging (judge (view p) j (read bytes)) (at j) side bytes out
   unfolding stepping
   turn e = rw e
 
@@ -55,11 +55,11 @@ module _ (p : D.Table) (sound : soundOf p ≡ true) (j : ℕ) (inside : j < p .s
   unfolding soundOf
   tables-sound = both (known p) (T.sound (view p)) sound .1
 
-  judged-some : (b : ℕ) → allows (view p) j (read bytes) ≡ some b → judging (judge (view p) j (read bytes)) (at j) side bytes out ≡ forwarding b bytes (at j) out
+  pub judged-some : (b : ℕ) → allows (view p) j (read bytes) ≡ some b → judging (judge (view p) j (read bytes)) (at j) side bytes out ≡ forwarding b bytes (at j) out
   unfolding judging
   judged-some b e = ap (λ x. judging x (at j) side bytes out) (judge-allows (view p) tables-sound j (read bytes) b .1 e)
 
-  judged-none : allows (view p) j (read bytes) ≡ none
+  pub judged-none : allows (view p) j (read bytes) ≡ none
       → (why : Judgement) × (judging (judge (view p) j (read bytes)) (at j) side bytes out ≡ blaming why (at j) side out)
   unfolding judging
   judged-none e = go (judge (view p) j (read bytes)) refl

@@ -77,7 +77,7 @@ fn forbidden(random: &mut Random, both: &Both, state: State, more: usize, tally:
     for _ in 0..=more {
         let mut given = allowed(random, both, state);
         given.message = faulty_message(random, &both.second, usize::from(state.position));
-        given.room = given.message.len();
+        given.room = given.message.len().saturating_sub(usize::from(random.one_in(5)));
         state = step_of(&given, both, tally)?;
     }
     Ok(())

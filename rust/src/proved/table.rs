@@ -12,7 +12,7 @@ pub const MOST_FIELDS: usize = 4;
 /// A session type as number columns.
 ///
 /// Any numbers may stand in the columns: every call asks question 9 first, and refuses a table that is not sound. Entries beyond
-/// the counts mean nothing. [`Table::read`] gives a sound one.
+/// the counts mean nothing, though `==` compares them too. [`Table::read`] gives a sound table, with 0 in all of them.
 ///
 /// ```
 /// use sojimu::Table;

@@ -1,0 +1,144 @@
+-- What the functions that play the moves say. Nothing here need be believed: the contract of `report` cites none of it.
+-- Assumes nothing.
+use Prim.Native.Nat.{ℕ, zero, suc, _+_, _*_, _≤_, _<_}
+use mathlib.Core.Path.{_≡_}
+use mathlib.Core.Bool.{Bool, true, false, cond}
+use mathlib.Core.List.{List, [], _∷_, _++_}
+use mathlib.Core.Option.{Option, none, some}
+use lib.ListN.{length, take}
+use lib.Dec.{ltb}
+use Rattle.table.specs.Table.{Table, sort}
+use Rattle.table.specs.View.{view, soundOf}
+use Rattle.message.specs.Message.{count-of, well-formed, read}
+use Rattle.message.specs.Judge.{allows}
+use Rattle.message.specs.Make.{made, branch, opening}
+use Rattle.message.specs.Layout.{put}
+use Rattle.monitor.specs.declared.Party.{Party}
+use Rattle.monitor.specs.declared.Party.the-variants as P
+use Rattle.monitor.specs.Step.{speaker}
+use Rattle.fit.specs.Machine.{Machine, Move, Effect, nothing, forward, stop, Standing, running, device-blamed, host-blamed, jammed, effect, same-sort, play}
+use Rattle.fit.specs.Fit.{spoken, shown, named, Failing}
+use Rattle.fit.specs.Answer.{Fewest}
+use Rattle.table.specs.declared.Table as D
+use Rattle.summary.specs.Report.{move-line, move-lines, ending, Compared, Reported}
+use Rattle.summary.specs.Lines.{sideOf}
+use Rattle.summary.specs.declared.play.Heard.{Heard}
+use Rattle.summary.specs.declared.play.Heard.the-variants as H
+use Rattle.summary.specs.declared.play.Pair.{Pair}
+use Rattle.summary.specs.declared.play.Played.{Played}
+use Rattle.summary.specs.declared.play.Said.{Said}
+
+-- ---- one message at one table
+
+-- the table is sound, and at that state of it it is the side's turn
+pub record Turn (t : D.Table) (i : ℕ) (side : Party) : Type 0 where
+  pub sound : soundOf t ≡ true
+  pub inside : i < t .states
+  pub turn : speaker (sort (view t) i) ≡ some side
+
+unfoldable pub heardOf : Heard → Option ℕ
+heardOf (H.On target) = some target
+heardOf H.Not = none
+
+-- ---- one message at both
+
+-- the two states, and whether the device is blamed
+abbrev pub Stand : Type 0
+Stand = ℕ × ℕ × Bool
+
+abbrev pub pairOf : Pair → Stand
+pairOf r = (r .state, r .position, r .blamed)
+
+unfoldable pub is-device : Party → Bool
+is-device P.Device = true
+is-device P.Host = false
+
+-- x and y are where the device and the protocol lead
+unfoldable pub settled : ℕ → ℕ → Party → Option ℕ → Option ℕ → Stand
+settled i j side none y = (i, j, false)
+settled i j side (some x) none = (i, j, is-device side)
+settled i j side (some x) (some y) = (x, y, false)
+
+-- ---- a move
+
+-- the machine's effect, as far as it is kept
+unfoldable pub blames : Standing → Bool
+blames running = false
+blames device-blamed = true
+blames host-blamed = false
+blames jammed = false
+
+unfoldable pub kept : ℕ → ℕ → Effect → Stand
+kept i j nothing = (i, j, false)
+kept i j (forward x y) = (x, y, false)
+kept i j (stop s) = (i, j, blames s)
+
+-- what is said: the message, and its line from a place on
+pub record Said-by (t : Table) (side : Party) (k : ℕ) (h : Option ℕ) (at : ℕ) (message before after : List ℕ) (r : Said) : Type 0 where
+  pub full : length message ≡ 285
+  pub short : r .length ≤ 285
+  pub message-is : take (r .length) message ≡ made (branch t k) h
+  pub at-is : r .at ≡ at + length (move-line (record { side = sideOf side; bytes = made (branch t k) h }) h)
+  pub most : r .at ≤ at + 24
+  pub most-low : h ≡ none → r .at ≤ at + 13
+  pub written : after ≡ put at (move-line (record { side = sideOf side; bytes = made (branch t k) h }) h) before
+
+pub record Plays (d p : Table) (i j : ℕ) (v : Move) (h : Option ℕ) (at : ℕ) (before after : List ℕ) (r : Played) : Type 0 where
+  pub pair-is : pairOf (r .pair) ≡ kept i j (effect d p i j v)
+  pub at-is : r .at ≡ at + length (move-line v h)
+  pub most : r .at ≤ at + 24
+  pub most-low : h ≡ none → r .at ≤ at + 13
+  pub written : after ≡ put at (move-line v h) before
+
+-- the move of branch k at device state i
+abbrev pub line-of : Table → Table → ℕ → ℕ → Option ℕ → Move
+line-of d p i k h = spoken d p (sort d i) k h
+
+-- the two states are of one sort, and the branch's message is a move
+pub record Ready (d p : D.Table) (i j k : ℕ) (h : Option ℕ) : Type 0 where
+  pub d-sound : soundOf d ≡ true
+  pub p-sound : soundOf p ≡ true
+  pub i-inside : i < d .states
+  pub j-inside : j < p .states
+  pub alike : same-sort (sort (view d) i) (sort (view p) j) ≡ true
+  pub formed : well-formed (line-of (view d) (view p) i k h .bytes) ≡ true
+  pub field : named h (count-of (line-of (view d) (view p) i k h .bytes)) ≡ true
+
+-- ---- all moves
+
+-- the field of move n, of as many as K
+unfoldable pub high-at : ℕ → ℕ → Option ℕ → Option ℕ
+high-at n K h = cond (ltb (n + 1) K) none h
+
+-- the lines from the machine m on
+unfoldable pub rest : Table → Table → Machine → List ℕ → Option ℕ → List ℕ
+rest d p m ks h = move-lines (shown d p m ks h) h ++ ending (play d p m (shown d p m ks h) .standing)
+
+-- the first K entries of the list are moves that show a fault
+pub record Shows (d p : D.Table) (list : List ℕ) (K : ℕ) (h : Option ℕ) : Type 0 where
+  pub d-sound : soundOf d ≡ true
+  pub p-sound : soundOf p ≡ true
+  pub few : K ≤ 1024
+  pub long : length list ≡ 1024
+  pub failing : Failing (view d) (view p) (take K list) h
+  pub fewest : Fewest (view d) (view p) K
+
+-- ---- two tables
+
+-- the text of their comparison opens the buffer
+pub record Opened (d p : D.Table) (before after : List ℕ) (r : ℕ) : Type 0 where
+  pub text : List ℕ
+  pub compared : Compared (view d) (view p) text
+  pub long : r ≡ length text
+  pub within : r ≤ length before
+  pub opened : after ≡ put 0 text before
+
+-- ---- two texts
+
+-- their report opens a buffer that holds it
+pub record Composed (protocol device before after : List ℕ) (r : ℕ) : Type 0 where
+  pub text : List ℕ
+  pub reported : Reported protocol device text
+  pub long : r ≡ length text
+  pub within : r ≤ length before
+  pub opened : after ≡ opening text before

@@ -1,0 +1,24 @@
+// The header from C++: it compiles, links, and a result of each size comes back whole. The status is 0 where all is right.
+#include <cstring>
+
+#include "sojimu.h"
+
+int main()
+{
+    const char *text = "rec X.+{!Ask(int[0..100]).&{?Ok().X},!Quit().end}";
+    const sojimu_reading r = sojimu_read(reinterpret_cast<const uint8_t *>(text), std::strlen(text));
+    const sojimu_turned d = sojimu_dual(r.table);
+    uint16_t list[SOJIMU_LIST] = {};
+    uint8_t message[SOJIMU_MESSAGE] = {}, out[SOJIMU_MESSAGE] = {};
+    sojimu_state s = sojimu_fresh();
+    const sojimu_made made = sojimu_make(&r.table, 0, 0, message, sizeof message);
+    const struct sojimu_due due = sojimu_due(&r.table, s, message, sizeof message, nullptr, 0);
+    const sojimu_head head = sojimu_front(message, due.length);
+    const sojimu_verdict v = sojimu_step(&r.table, &s, SOJIMU_DEVICE, message, due.length, out, sizeof out);
+    const struct sojimu_fit f = sojimu_fit(&r.table, &r.table, list, SOJIMU_LIST);
+    const bool right = r.question == 0 && sojimu_sound(&r.table) && d.question == 0 && made.length == 14 &&
+                       due.side == SOJIMU_DEVICE && due.length == 14 && head.length == 14 && v.outcome == SOJIMU_FORWARDED &&
+                       std::memcmp(message, out, sizeof out) == 0 && s.position == 1 && sojimu_turn(&r.table, s) == SOJIMU_HOST &&
+                       f.outcome == SOJIMU_FITS && f.count == 3;
+    return right ? 0 : 1;
+}
