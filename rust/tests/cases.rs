@@ -151,6 +151,7 @@ impl Run {
             'x' => fit_answer(given),
             'y' => fit_answer(given)[..2].to_vec(),
             'o' => report_text(given),
+            'z' => report_in_room(given[0] as usize, &given[1..]),
             _ => panic!("no such command: {command}"),
         }
     }
@@ -313,6 +314,16 @@ fn fit_answer(given: &[u64]) -> Vec<u64> {
         }
     };
     numbers.extend(list.into_iter().map(u64::from));
+    numbers
+}
+
+/// The report's length and the buffer that it opens; 0 and the buffer unchanged, where it does not hold it.
+fn report_in_room(room: usize, texts: &[u64]) -> Vec<u64> {
+    let report = report_text(texts);
+    let length = if report.len() <= room { report.len() } else { 0 };
+    let mut numbers = vec![length as u64];
+    numbers.extend(&report[..length]);
+    numbers.resize(1 + room, UNTOUCHED.into());
     numbers
 }
 

@@ -52,7 +52,7 @@ fn answer(
         b'q' | b'r' => texts::answer(command, numbers, given, got),
         b's' | b'g' | b'u' | b'w' => steps::answer(command, base, talk, numbers, given, got),
         b'x' | b'y' => fits::answer(command, numbers, given, got),
-        b'o' => reports::answer(numbers, given, got),
+        b'o' | b'z' => reports::answer(command, numbers, given, got),
         _ => 0,
     }
 }
