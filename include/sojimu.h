@@ -52,14 +52,16 @@ extern "C" {
 
 /* ---- constants */
 
-/* Limits. A message has at most 285 bytes, a list that question 17 never refuses 1,024 entries. */
+/* Limits. A message has at most 285 bytes, a list that question 17 never refuses 1,024 entries, a buffer that holds every report
+ * 16,384 bytes. */
 enum {
     SOJIMU_STATES = 32,
     SOJIMU_BRANCHES = 128,
     SOJIMU_FIELDS = 4,
     SOJIMU_TEXT = 8192,
     SOJIMU_MESSAGE = 285,
-    SOJIMU_LIST = 1024
+    SOJIMU_LIST = 1024,
+    SOJIMU_REPORT = 16384
 };
 
 /* A state's sort, in a table. */
@@ -216,6 +218,12 @@ SOJIMU_HOLDS(offsetof(struct sojimu_fit, high) == 4);
 
 /* Reads a protocol text, which need not end in 0x00. Asks 1, then of each token from the left 2 to 8. */
 struct sojimu_reading sojimu_read(const uint8_t *text, size_t length);
+
+/* The report on a device's text against a protocol's: whether it fits, the moves that show it where it does not, or which text is
+ * refused. Its bytes open `out`, the rest of which is unchanged, and its length is the answer. Where `out` does not hold it, the
+ * answer is 0 and `out` is unchanged; SOJIMU_REPORT bytes always do. */
+size_t sojimu_report(const uint8_t *protocol, size_t protocol_length, const uint8_t *device, size_t device_length, uint8_t *out,
+                     size_t room);
 
 /* The dual: sending and receiving exchanged. Asks 9. */
 struct sojimu_turned sojimu_dual(struct sojimu_table table);

@@ -462,9 +462,32 @@ static void failures(void)
     CHECK(v.outcome == SOJIMU_BLAMED && v.party == SOJIMU_DEVICE && v.reason == SOJIMU_OUT_OF_RANGE && v.field == 0);
 }
 
+/* The report of two texts is this one, with just enough room; with a byte less nothing changes. */
+static void report_is(const char *protocol, const char *device, const char *text)
+{
+    uint8_t out[64];
+    const size_t length = strlen(text);
+    memset(out, 0xEE, sizeof out);
+    const uint8_t *const p = (const uint8_t *)protocol, *const d = (const uint8_t *)device;
+    CHECK(sojimu_report(p, strlen(protocol), d, strlen(device), out, length - 1) == 0 && out[0] == 0xEE);
+    CHECK(sojimu_report(p, strlen(protocol), d, strlen(device), out, length) == length);
+    CHECK(memcmp(out, text, length) == 0 && out[length] == 0xEE);
+}
+
+static void reports(void)
+{
+    static const char q[] = "rec X.+{!Ping().&{?Pong().X},!Quit().end}";
+    report_is(q, "+{!Ping().&{?Busy().end}}", "no fit 2\nin Ping\nout Pong\njammed\n");
+    report_is(q, "+{!Quit().end}", "fit 2\n");
+    report_is(P, "+{!Ask(int[0..101]).&{?Ok().end}}", "no fit 1\nin Ask high 0\nblamed\n");
+    report_is("", "end", "protocol refused 3 at 0\n");
+    report_is(q, "rec X.X", "device refused 5 at 6\n");
+}
+
 int main(void)
 {
     texts();
+    reports();
     tables();
     questions();
     making();

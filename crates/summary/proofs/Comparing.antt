@@ -170,7 +170,11 @@ module _ (protocol device before : List ℕ) {after : List ℕ} {x : ℕ} where
 
 -- ---- the lent buffer
 
-module _ (protocol device buffer : List ℕ) {zeros after : List ℕ} {x : ℕ} (c : Composed protocol device zeros after x) where
+module _ (protocol device buffer : List ℕ) {zeros after : List ℕ} {x : ℕ} (c : Composed protocol device zeros after x)
+    (room : length zeros ≡ 16384) where
+  most : length (c .text) ≤ 16384
+  most = omega (arith, c .long, c .within, room)
+
   -- the report is among what was composed
   pub composed-room : x ≤ length after
   unfolding opening
@@ -180,21 +184,22 @@ module _ (protocol device buffer : List ℕ) {zeros after : List ℕ} {x : ℕ} 
   pub written-not : length buffer < x → Written protocol device buffer buffer 0
   written-not short =
       let no = lt-leb (length (c .text)) (length buffer) (omega (arith, c .long, short)) in
-      record { text = c .text; reported = c .reported; answer = rw no refl; buffer = rw no refl }
+      record { text = c .text; reported = c .reported; most = most; answer = rw no refl; buffer = rw no refl }
 
   -- the buffer holds it
   pub copied-fits : x ≤ length buffer → length (take x after) ≤ length buffer
-  copied-fits room = subst (λ n. n ≤ length buffer) (sym (length-take-le x after composed-room)) room
+  copied-fits held = subst (λ n. n ≤ length buffer) (sym (length-take-le x after composed-room)) held
 
-  pub written-whole : (rest : List ℕ) → (x ≤ length buffer) → rest ≡ take (length (take x after)) (take x after) ++ drop (length (take x after)) buffer
-      → Written protocol device buffer rest x
+  pub written-whole : (filled : List ℕ) → (x ≤ length buffer) → filled ≡ take (length (take x after)) (take x after) ++ drop (length (take x after)) buffer
+      → Written protocol device buffer filled x
   unfolding opening
-  written-whole rest room e =
-      let yes = le-leb (length (c .text)) (length buffer) (omega (arith, c .long, room)) in
+  written-whole filled held e =
+      let yes = le-leb (length (c .text)) (length buffer) (omega (arith, c .long, held)) in
       let whole : take x after ≡ c .text = ap₂ take (c .long) (c .opened) ∙ take-append-seam (c .text) (drop (length (c .text)) zeros) in
       record {
         text = c .text;
         reported = c .reported;
+        most = most;
         answer = rw yes (c .long);
         buffer = rw yes (e ∙ ap (λ (l : List ℕ). take (length l) l ++ drop (length l) buffer) whole ∙ ap (λ (l : List ℕ). l ++ drop (length (c .text)) buffer) (take-length (c .text)));
       }

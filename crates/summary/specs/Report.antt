@@ -92,9 +92,10 @@ pub record Reported (protocol device text : List ℕ) : Type 0 where
       → Compared (view (reads device .table)) (view (reads protocol .table)) text
 
 -- what the call promises: the text opens the buffer, the rest of which is unchanged, and r is its length; where the buffer does
--- not hold it, r is 0, and the buffer is unchanged. No report is empty
+-- not hold it, r is 0, and the buffer is unchanged. No report is empty, and 16,384 bytes hold every report
 pub record Written (protocol device before after : List ℕ) (r : ℕ) : Type 0 where
   pub text : List ℕ
   pub reported : Reported protocol device text
+  pub most : length text ≤ 16384
   pub answer : r ≡ cond (leb (length text) (length before)) (length text) 0
   pub buffer : after ≡ cond (leb (length text) (length before)) (opening text before) before

@@ -2,8 +2,8 @@
 
 use super::ffi;
 
-/// The most bytes of a report: 1,024 moves.
-pub const LONGEST_REPORT: usize = 13_338;
+/// A buffer of so many bytes holds every report.
+pub const LONGEST_REPORT: usize = 16_384;
 
 /// What the report program prints for two texts: a refused text, `fit` and the pairs met, or `no fit` and the moves that show it.
 ///
