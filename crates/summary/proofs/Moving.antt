@@ -8,6 +8,7 @@ use mathlib.Core.Option.{Option, none, some}
 use Prim.Native.Nat.{ℕ, zero, suc, _≤_, _<_}
 use native.Mathlib.Omega.{arith}
 use lib.ListN.{length, getD, List·getD-eq-default}
+use lib.Seq.{length-take-le}
 use lib.Dec.{ltb}
 use borrow.Author.Tests.{ltb-true, ltb-false, lt-ltb}
 use Rattle.table.specs.Table.{Sort, ends, sends, receives, Table, Branch, sort, sound}
@@ -24,8 +25,8 @@ use Rattle.monitor.specs.Step.{speaker}
 use Rattle.fit.specs.Machine.{Side, device, host, Move, Effect, from-device, from-host, by-turn, effect, same-sort}
 use Rattle.fit.specs.Fit.{named, spoken}
 use Rattle.summary.specs.Lines.{sideOf}
-use Rattle.summary.specs.Playing.{Turn, Stand, settled, is-device, kept, blames, line-of, Plays, Ready}
-use Rattle.summary.specs.declared.play.Played.{Played}
+use Rattle.summary.specs.Playing.{Turn, Stand, settled, is-device, kept, blames, line-of, Said-by, Speaking, Spoken-by, Ready}
+use Rattle.summary.specs.declared.play.Said.{Said}
 use Rattle.table.specs.declared.Table as D
 
 clash : {X : Type 0} → _≡_ {A = ℕ} 0 1 → X
@@ -65,12 +66,12 @@ same receives ends e = absurd (false≢true e)
 same receives sends e = absurd (false≢true e)
 same receives receives e = refl
 
-pub effect-settled : (d p : Table) (i j : ℕ) (side : Party) (bytes : List ℕ) → well-formed bytes ≡ true
+pub effect-settled : (d p : Table) (i j : ℕ) (side : Party) (v : Move) → v .side ≡ sideOf side → well-formed (v .bytes) ≡ true
     → speaker (sort d i) ≡ some side → speaker (sort p j) ≡ some side
-    → settled i j side (allows d i (read bytes)) (allows p j (read bytes)) ≡ kept i j (effect d p i j (record { side = sideOf side; bytes = bytes }))
+    → settled i j side (allows d i (read (v .bytes))) (allows p j (read (v .bytes))) ≡ kept i j (effect d p i j v)
 unfolding effect
-effect-settled d p i j side bytes w e f =
-    rw w (sym (by-side (sort d i) (sort p j) side i j (allows d i (read bytes)) (allows p j (read bytes)) e f))
+effect-settled d p i j side v q w e f =
+    rw (w, q) (sym (by-side (sort d i) (sort p j) side i j (allows d i (read (v .bytes))) (allows p j (read (v .bytes))) e f))
 
 -- ---- whose move it is
 
@@ -103,67 +104,72 @@ existing t s k h w f =
     go none e = refl
     go (some n) e = e
 
--- the side speaks at both states, and the move is its branch k
-pub record Speaks (own d p : D.Table) (side : Party) (i j k : ℕ) (h : Option ℕ) : Type 0 where
+-- the side speaks, and the move is its branch k
+pub record Speaks (own d p : D.Table) (side : Party) (i k : ℕ) (h : Option ℕ) : Type 0 where
   pub has : exists (view own) k h ≡ true
-  pub d-turn : Turn d i side
-  pub p-turn : Turn p j side
+  pub turn : speaker (sort (view d) i) ≡ some side
   pub is : record { side = sideOf side; bytes = made (branch (view own) k) h } ≡ line-of (view d) (view p) i k h
 
-pub spoken-as : {own d p : D.Table} {side : Party} {i j k : ℕ} {h : Option ℕ} → Speaks own d p side i j k h → {at : ℕ} {before after : List ℕ} {r : Played}
-    → Plays (view d) (view p) i j (record { side = sideOf side; bytes = made (branch (view own) k) h }) h at before after r
-    → Plays (view d) (view p) i j (line-of (view d) (view p) i k h) h at before after r
-spoken-as {own} {d} {p} {side} {i} {j} {k} {h} s {at} {before} {after} {r} w =
-    subst (λ (v : Move). Plays (view d) (view p) i j v h at before after r) (s .is) w
+pub spoken-as : {own d p : D.Table} {side : Party} {i k : ℕ} {h : Option ℕ} → Speaks own d p side i k h → {at : ℕ} {message before after : List ℕ} {r : Said}
+    → Said-by (record { side = sideOf side; bytes = made (branch (view own) k) h }) side h at message before after r
+    → Spoken-by (view d) (view p) i k h at message before after r
+spoken-as {own} {d} {p} {side} {i} {k} {h} s {at} {message} {before} {after} {r} w =
+    record {
+      said =
+          subst (λ (x : Party). Said-by (line-of (view d) (view p) i k h) x h at message before after r) (sym (w .side-is))
+          (subst (λ (v : Move). Said-by v side h at message before after r) (s .is) w);
+      turn = s .turn ∙ ap some (sym (w .side-is));
+      whose = ap (λ (v : Move). v .side) (sym (s .is)) ∙ ap sideOf (sym (w .side-is));
+    }
 
-module _ {d p : D.Table} {i j k : ℕ} {h : Option ℕ} (r : Ready d p i j k h) where
-  other-sort : (s : Sort) → sort (view d) i ≡ s → same-sort s (sort (view p) j) ≡ true
-  other-sort s e = subst (λ (s : Sort). same-sort s (sort (view p) j) ≡ true) e (r .alike)
+pub said-size : {v : Move} {side : Party} {h : Option ℕ} {at : ℕ} {message before after : List ℕ} {r : Said} → Said-by v side h at message before after r
+    → length (v .bytes) ≤ 285
+said-size {message} {r} w =
+    omega (arith, w .short, ap length (w .message-is), length-take-le (r .length) message (omega (arith, w .full, w .short)))
 
+module _ {d p : D.Table} {i k : ℕ} {h : Option ℕ} (r : Speaking d p i k h) where
   formed-at : (s : Sort) → sort (view d) i ≡ s → well-formed (spoken (view d) (view p) s k h .bytes) ≡ true
   formed-at s e = subst (λ (s : Sort). well-formed (spoken (view d) (view p) s k h .bytes) ≡ true) e (r .formed)
 
   field-at : (s : Sort) → sort (view d) i ≡ s → named h (count-of (spoken (view d) (view p) s k h .bytes)) ≡ true
   field-at s e = subst (λ (s : Sort). named h (count-of (spoken (view d) (view p) s k h .bytes)) ≡ true) e (r .field)
 
-  turns : (s : Sort) (side : Party) → speaker s ≡ some side → sort (view d) i ≡ s → sort (view p) j ≡ s → Turn d i side × Turn p j side
-  turns s side w e f = (
-    record { sound = r .d-sound; inside = r .i-inside; turn = ap speaker e ∙ w },
-    record { sound = r .p-sound; inside = r .j-inside; turn = ap speaker f ∙ w },
-  )
-
-  device-speaks : sort (view d) i ≡ sends → Speaks d d p Device i j k h
+  device-speaks : sort (view d) i ≡ sends → Speaks d d p Device i k h
   unfolding spoken sideOf speaker
   device-speaks e =
-      let u = turns sends Device refl e (same sends (sort (view p) j) (other-sort sends e)) in
       record {
         has = existing d (r .d-sound) k h (formed-at sends e) (field-at sends e);
-        d-turn = u .0;
-        p-turn = u .1;
+        turn = ap speaker e;
         is = ap (λ (s : Sort). spoken (view d) (view p) s k h) (sym e);
       }
 
-  host-speaks : sort (view d) i ≡ receives → Speaks p d p Host i j k h
+  host-speaks : sort (view d) i ≡ receives → Speaks p d p Host i k h
   unfolding spoken sideOf speaker
   host-speaks e =
-      let u = turns receives Host refl e (same receives (sort (view p) j) (other-sort receives e)) in
       record {
         has = existing p (r .p-sound) k h (formed-at receives e) (field-at receives e);
-        d-turn = u .0;
-        p-turn = u .1;
+        turn = ap speaker e;
         is = ap (λ (s : Sort). spoken (view d) (view p) s k h) (sym e);
       }
 
   -- by the code of the device's sort
-  pub ready-device : getD (d .sort) i 0 ≡ 1 → Speaks d d p Device i j k h
+  pub speaks-device : getD (d .sort) i 0 ≡ 1 → Speaks d d p Device i k h
   unfolding sortOf
-  ready-device e = device-speaks (sort-of d i (r .i-inside) ∙ ap sortOf e)
+  speaks-device e = device-speaks (sort-of d i (r .i-inside) ∙ ap sortOf e)
 
-  pub ready-host : (getD (d .sort) i 0 ≡ 1 → ⊥) → Speaks p d p Host i j k h
+  pub speaks-host : (getD (d .sort) i 0 ≡ 1 → ⊥) → Speaks p d p Host i k h
   unfolding sortOf spoken well-formed whole
-  ready-host n = go (getD (d .sort) i 0) n (sort-of d i (r .i-inside))
+  speaks-host n = go (getD (d .sort) i 0) n (sort-of d i (r .i-inside))
     where
-      go : (c : ℕ) → (c ≡ 1 → ⊥) → sort (view d) i ≡ sortOf c → Speaks p d p Host i j k h
+      go : (c : ℕ) → (c ≡ 1 → ⊥) → sort (view d) i ≡ sortOf c → Speaks p d p Host i k h
       go zero n e = absurd (false≢true (formed-at ends e))
       go (suc zero) n e = absurd (n refl)
       go (suc (suc c)) n e = host-speaks e
+
+-- then it is that side's turn at both states
+pub both-turn : {d p : D.Table} {i j k : ℕ} {h : Option ℕ} → Ready d p i j k h → {side : Party} → speaker (sort (view d) i) ≡ some side
+    → Turn d i side × Turn p j side
+both-turn {d} {p} {i} {j} r e = (
+  record { sound = r .speaking .d-sound; inside = r .speaking .i-inside; turn = e },
+  record { sound = r .speaking .p-sound; inside = r .j-inside; turn = ap speaker (same (sort (view d) i) (sort (view p) j) (r .alike)) ∙ e },
+)

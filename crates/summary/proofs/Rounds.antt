@@ -178,7 +178,7 @@ module _ (d p : D.Table) (ks : List ℕ) (h : Option ℕ) (sd : soundOf d ≡ tr
         let w = g .going l in
         let f = first-real (view d) (view p) m k left h remains in
         subst (λ (x : Option ℕ). Ready d p (r .state) (r .position) k x) (sym field)
-        (record { d-sound = sd; p-sound = sp; i-inside = w .1; j-inside = w .2; alike = alike; formed = f .0; field = f .1 })
+        (record { speaking = record { d-sound = sd; p-sound = sp; i-inside = w .1; formed = f .0; field = f .1 }; j-inside = w .2; alike = alike })
 
 -- ---- one move more
 

@@ -11,7 +11,6 @@ use Rattle.table.specs.Table.{Table, sort}
 use Rattle.table.specs.View.{view, soundOf}
 use Rattle.message.specs.Message.{count-of, well-formed, read}
 use Rattle.message.specs.Judge.{allows}
-use Rattle.message.specs.Make.{made, branch, opening}
 use Rattle.message.specs.Layout.{put}
 use Rattle.monitor.specs.declared.Party.{Party}
 use Rattle.monitor.specs.declared.Party.the-variants as P
@@ -73,15 +72,16 @@ kept i j nothing = (i, j, false)
 kept i j (forward x y) = (x, y, false)
 kept i j (stop s) = (i, j, blames s)
 
--- what is said: the message, and its line from a place on
-pub record Said-by (t : Table) (side : Party) (k : ℕ) (h : Option ℕ) (at : ℕ) (message before after : List ℕ) (r : Said) : Type 0 where
+-- what is said: a move's message, and its line from a place on
+pub record Said-by (v : Move) (side : Party) (h : Option ℕ) (at : ℕ) (message before after : List ℕ) (r : Said) : Type 0 where
   pub full : length message ≡ 285
   pub short : r .length ≤ 285
-  pub message-is : take (r .length) message ≡ made (branch t k) h
-  pub at-is : r .at ≡ at + length (move-line (record { side = sideOf side; bytes = made (branch t k) h }) h)
+  pub side-is : r .side ≡ side
+  pub message-is : take (r .length) message ≡ v .bytes
+  pub at-is : r .at ≡ at + length (move-line v h)
   pub most : r .at ≤ at + 24
   pub most-low : h ≡ none → r .at ≤ at + 13
-  pub written : after ≡ put at (move-line (record { side = sideOf side; bytes = made (branch t k) h }) h) before
+  pub written : after ≡ put at (move-line v h) before
 
 pub record Plays (d p : Table) (i j : ℕ) (v : Move) (h : Option ℕ) (at : ℕ) (before after : List ℕ) (r : Played) : Type 0 where
   pub pair-is : pairOf (r .pair) ≡ kept i j (effect d p i j v)
@@ -94,15 +94,25 @@ pub record Plays (d p : Table) (i j : ℕ) (v : Move) (h : Option ℕ) (at : ℕ
 abbrev pub line-of : Table → Table → ℕ → ℕ → Option ℕ → Move
 line-of d p i k h = spoken d p (sort d i) k h
 
--- the two states are of one sort, and the branch's message is a move
-pub record Ready (d p : D.Table) (i j k : ℕ) (h : Option ℕ) : Type 0 where
+-- the branch's message is a move
+pub record Speaking (d p : D.Table) (i k : ℕ) (h : Option ℕ) : Type 0 where
   pub d-sound : soundOf d ≡ true
   pub p-sound : soundOf p ≡ true
   pub i-inside : i < d .states
-  pub j-inside : j < p .states
-  pub alike : same-sort (sort (view d) i) (sort (view p) j) ≡ true
   pub formed : well-formed (line-of (view d) (view p) i k h .bytes) ≡ true
   pub field : named h (count-of (line-of (view d) (view p) i k h .bytes)) ≡ true
+
+-- and the two states are of one sort
+pub record Ready (d p : D.Table) (i j k : ℕ) (h : Option ℕ) : Type 0 where
+  pub speaking : Speaking d p i k h
+  pub j-inside : j < p .states
+  pub alike : same-sort (sort (view d) i) (sort (view p) j) ≡ true
+
+-- the move is said by the side whose turn it is
+pub record Spoken-by (d p : Table) (i k : ℕ) (h : Option ℕ) (at : ℕ) (message before after : List ℕ) (r : Said) : Type 0 where
+  pub said : Said-by (line-of d p i k h) (r .side) h at message before after r
+  pub turn : speaker (sort d i) ≡ some (r .side)
+  pub whose : line-of d p i k h .side ≡ sideOf (r .side)
 
 -- ---- all moves
 

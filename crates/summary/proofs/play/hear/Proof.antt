@@ -3,24 +3,39 @@ use mathlib.Core.Path.{_≡_, sym, ap, _∙_}
 use Prim.Native.Nat.{ℕ}
 use native.Mathlib.Omega.{arith}
 use lib.ListN.{replicate, length-replicate}
-use Rattle.table.specs.View.{view}
+use Rattle.table.specs.View.{view, columns}
 use Rattle.message.specs.Message.{read}
 use Rattle.message.specs.Judge.{allows}
 use Rattle.monitor.specs.declared.Verdict.{Verdict}
 use Rattle.summary.specs.Playing.{heardOf}
 use Rattle.summary.proofs.Hearing.{heard-as, hears}
+use Rattle.table.specs.declared.Table as Columns
 use borrow.Author.Needs.{needs}
 use Rattle.summary.proofs.play.hear.Statement.{statement}
 use Rattle.summary.proofs.play.hear.Tie as tie
 use Rattle.summary.proofs.play.hear.Reads as reads
 use Rattle.summary.proofs.play.hear.Lts as lts
-use Rattle.monitor.proofs.step.Reads as step-reads
+use Rattle.monitor.proofs.columns_step.Reads as columns-step-reads
 
-slice-aggregate-step : tie.Need-slice-aggregate-step
-slice-aggregate-step c = search needs
+abbrev T : tie.Start → Columns.Table
+T c = columns (c .args .states) (c .args .branches) (c .args .sort .now) (c .args .owner .now) (c .args .target .now) (c .args .fields .now) (c .args .label .now) (c .args .kind .now) (c .args .low .now) (c .args .high .now)
 
-step-requires : tie.Need-step-requires
-step-requires c κs = search needs
+-- what the verdict says
+heard : (c : tie.After-out2) {v : Verdict} → c .before .columns-step .result .verdict ≡ v
+    → let s = c .before .before .before .before in
+    heard-as v (c .before .columns-step .result .state) ≡ allows (view (T s)) (s .args .position) (read (s .args .message .now))
+heard c e =
+    let s = c .before .before .before .before in
+    let a = s .args in
+    let q = s .pre in
+    sym (ap (λ (v : Verdict). heard-as v (c .before .columns-step .result .state)) e)
+    ∙ hears (T s) (a .position) (a .side) (q .0) (a .message .now) (q .1) (replicate 285 0) (omega (arith, q .2, length-replicate {A = ℕ} 285 0)) (c .before .columns-step .result) _ (c .before .columns-step .ensures)
+
+slice-aggregate-columns-step : tie.Need-slice-aggregate-columns-step
+slice-aggregate-columns-step c = search needs
+
+columns-step-requires : tie.Need-columns-step-requires
+columns-step-requires c κs = search needs
 
 enum-told : tie.Need-enum-told
 enum-told c = search needs
@@ -30,16 +45,6 @@ enum-told-2 c = search needs
 
 enum-told-3 : tie.Need-enum-told-3
 enum-told-3 c = search needs
-
--- what the verdict says
-heard : (c : tie.After-out2) {v : Verdict} → c .before .step .result .verdict ≡ v
-    → heard-as v (c .before .step .result .state)
-    ≡ allows (view (c .before .before .before .before .args .t)) (c .before .before .before .before .args .position) (read (c .before .before .before .before .args .message .now))
-heard c e =
-    let a = c .before .before .before .before .args in
-    let q = c .before .before .before .before .pre in
-    sym (ap (λ (v : Verdict). heard-as v (c .before .step .result .state)) e)
-    ∙ hears (a .t) (a .position) (a .side) (q .0) (a .message .now) (q .1) (replicate 285 0) (omega (arith, q .2, length-replicate {A = ℕ} 285 0)) (c .before .step .result) _ (c .before .step .ensures)
 
 returns : tie.Need-returns
 unfolding heardOf heard-as
@@ -57,8 +62,8 @@ pub hear-spec : {M : Type 1} → statement M
 hear-spec =
     tie.close
     (tie.spec
-    slice-aggregate-step
-    step-requires
+    slice-aggregate-columns-step
+    columns-step-requires
     enum-told
     enum-told-2
     enum-told-3

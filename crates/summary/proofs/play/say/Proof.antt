@@ -1,9 +1,11 @@
 -- `summary::play/say` meets its contract. Assumes nothing.
-use mathlib.Core.Path.{ap, _∙_}
+use mathlib.Core.Path.{refl, ap, _∙_}
 use mathlib.Core.List.{List}
 use Prim.Native.Nat.{ℕ, _+_}
 use native.Mathlib.Omega.{arith}
 use lib.ListN.{length}
+use Rattle.table.specs.View.{columns}
+use Rattle.table.specs.declared.Table as Columns
 use Rattle.table.proofs.Facts.{sound-facts}
 use Rattle.message.specs.Make.{highOf}
 use Rattle.message.specs.Layout.{put}
@@ -14,11 +16,14 @@ use Rattle.summary.proofs.play.say.Statement.{statement}
 use Rattle.summary.proofs.play.say.Tie as tie
 use Rattle.summary.proofs.play.say.Reads as reads
 use Rattle.summary.proofs.play.say.Lts as lts
-use Rattle.message.proofs.make.Reads as make-reads
+use Rattle.message.proofs.columns_make.Reads as columns-make-reads
 use Rattle.summary.proofs.write.move_line.Reads as move-line-reads
 
-make-requires : tie.Need-make-requires
-make-requires c κs = search needs
+abbrev T : tie.Start → Columns.Table
+T c = columns (c .args .states) (c .args .branches) (c .args .sort .now) (c .args .owner .now) (c .args .target .now) (c .args .fields .now) (c .args .label .now) (c .args .kind .now) (c .args .low .now) (c .args .high .now)
+
+columns-make-requires : tie.Need-columns-make-requires
+columns-make-requires c κs = search needs
 
 mul-move-line : tie.Need-mul-move-line
 mul-move-line c = search needs
@@ -26,8 +31,8 @@ mul-move-line c = search needs
 element-copy-out-move-line : tie.Need-element-copy-out-move-line
 element-copy-out-move-line c =
     let s = c .before .before .before .before in
-    let l = branch-there (s .args .t1) (s .pre .0) (s .args .k) (highOf (s .args .high)) (s .pre .1) in
-    omega (arith, l, sound-facts (s .args .t1) (s .pre .0) .room)
+    let l = branch-there (T s) (s .pre .0) (s .args .k) (highOf (s .args .named)) (s .pre .1) in
+    omega (arith, l, sound-facts (T s) (s .pre .0) .room)
 
 move-line-requires : tie.Need-move-line-requires
 move-line-requires c κs = search needs
@@ -35,8 +40,8 @@ move-line-requires c κs = search needs
 enum-known-m : tie.Need-enum-known-m
 enum-known-m c = search needs
 
-cast-t23 : tie.Need-cast-t23
-cast-t23 c = search needs
+cast-t30 : tie.Need-cast-t30
+cast-t30 c = search needs
 
 enum-told : tie.Need-enum-told
 enum-told c = search needs
@@ -48,14 +53,15 @@ returns : tie.Need-returns
 returns c =
     let s = c .before .before .before .before .before .before .before .before .before .before .before in
     let a = s .args in
-    let h = highOf (a .high) in
-    let m = c .before .before .before .before .before .before .before .before .make in
+    let h = highOf (a .named) in
+    let m = c .before .before .before .before .before .before .before .before .columns-make in
     let w = c .before .before .before .before .before .move-line .ensures in
-    let l = line-shown (a .t1) (s .pre .0) (a .k) h (s .pre .1) (sideOf (a .side)) in
+    let l = line-shown (T s) (s .pre .0) (a .k) h (s .pre .1) (sideOf (a .side)) in
     record {
-      full = full (a .t1) (s .pre .0) (a .k) h (s .pre .1) (a .message .now) _ (m .result) (s .pre .3) (m .ensures .0) (m .ensures .1);
-      short = short (a .t1) (s .pre .0) (a .k) h (s .pre .1) (a .message .now) _ (m .result) (s .pre .3) (m .ensures .0) (m .ensures .1) (c .before .m .given .1);
-      message-is = message-is (a .t1) (s .pre .0) (a .k) h (s .pre .1) (a .message .now) _ (m .result) (s .pre .3) (m .ensures .0) (m .ensures .1) (c .before .m .given .1);
+      full = full (T s) (s .pre .0) (a .k) h (s .pre .1) (a .message .now) _ (m .result) (s .pre .3) (m .ensures .0) (m .ensures .1);
+      short = short (T s) (s .pre .0) (a .k) h (s .pre .1) (a .message .now) _ (m .result) (s .pre .3) (m .ensures .0) (m .ensures .1) (c .before .m .given .1);
+      side-is = refl;
+      message-is = message-is (T s) (s .pre .0) (a .k) h (s .pre .1) (a .message .now) _ (m .result) (s .pre .3) (m .ensures .0) (m .ensures .1) (c .before .m .given .1);
       at-is = w .0 ∙ ap (λ (x : List ℕ). a .at + length x) l;
       most = w .3;
       most-low = w .2;
@@ -69,19 +75,19 @@ returns-2 : tie.Need-returns-2
 returns-2 c =
     let s = c .before .before .before .before .before .before .before .before .before .before in
     let a = s .args in
-    let m = c .before .before .before .before .before .before .before .make in
-    never-refused (a .t1) (s .pre .0) (a .k) (highOf (a .high)) (s .pre .1) (a .message .now) _ (m .result) (s .pre .3) (m .ensures .0) (m .ensures .1) (c .enum-told .given .1)
+    let m = c .before .before .before .before .before .before .before .columns-make in
+    never-refused (T s) (s .pre .0) (a .k) (highOf (a .named)) (s .pre .1) (a .message .now) _ (m .result) (s .pre .3) (m .ensures .0) (m .ensures .1) (c .enum-told .given .1)
 
 pub say-spec : {M : Type 1} → statement M
 say-spec =
     tie.close
     (tie.spec
-    make-requires
+    columns-make-requires
     mul-move-line
     element-copy-out-move-line
     move-line-requires
     enum-known-m
-    cast-t23
+    cast-t30
     enum-told
     same-length
     returns

@@ -1,53 +1,82 @@
 -- `summary::play/turn` meets its contract. Assumes nothing.
+use mathlib.Core.Path.{_≡_, sym, ap, subst, _∙_}
+use mathlib.Core.Bool.{true}
+use mathlib.Core.List.{List}
+use Prim.Native.Nat.{ℕ, _≤_}
 use native.Mathlib.Omega.{arith}
-use Rattle.table.proofs.Facts.{sound-facts}
-use Rattle.summary.proofs.Moving.{spoken-as, ready-device, ready-host}
+use lib.ListN.{length, length-replicate}
+use lib.Seq.{length-take-le}
+use Rattle.table.specs.View.{view, columns}
+use Rattle.message.specs.Message.{read, well-formed}
+use Rattle.message.specs.Judge.{allows}
+use Rattle.summary.specs.Playing.{settled}
+use Rattle.summary.proofs.Moving.{effect-settled, said-size, both-turn}
+use Rattle.table.specs.declared.Table as Columns
 use borrow.Author.Needs.{needs}
 use Rattle.summary.proofs.play.turn.Statement.{statement}
 use Rattle.summary.proofs.play.turn.Tie as tie
 use Rattle.summary.proofs.play.turn.Reads as reads
 use Rattle.summary.proofs.play.turn.Lts as lts
-use Rattle.summary.proofs.play.exchange.Reads as exchange-reads
+use Rattle.summary.proofs.play.meet.Reads as meet-reads
+use Rattle.summary.proofs.play.speak.Reads as speak-reads
 
-element-copy-out-if1 : tie.Need-element-copy-out-if1
-element-copy-out-if1 c = let r = c .before .pre .0 in omega (arith, r .i-inside, sound-facts _ (r .d-sound) .few)
+abbrev D : tie.Start → Columns.Table
+D c = columns (c .args .dstates) (c .args .dbranches) (c .args .dsort .now) (c .args .downer .now) (c .args .dtarget .now) (c .args .dfields .now) (c .args .dlabel .now) (c .args .dkind .now) (c .args .dlow .now) (c .args .dhigh .now)
 
-exchange-requires : tie.Need-exchange-requires
-exchange-requires c κs =
-    let s = c .before .before .before .before in
-    let r = ready-device (s .pre .0) (c .before .if1 .taken) in
-    (s .pre .0 .d-sound, r .has, r .d-turn, r .p-turn, s .pre .1)
+abbrev P : tie.Start → Columns.Table
+P c = columns (c .args .pstates) (c .args .pbranches) (c .args .psort .now) (c .args .powner .now) (c .args .ptarget .now) (c .args .pfields .now) (c .args .plabel .now) (c .args .pkind .now) (c .args .plow .now) (c .args .phigh .now)
+
+speak-requires : tie.Need-speak-requires
+speak-requires c κs =
+    let s = c .before .before .before in
+    (s .pre .0 .speaking, s .pre .1, length-replicate {A = ℕ} 285 0)
+
+array-share-prefix-message : tie.Need-array-share-prefix-message
+array-share-prefix-message c = let s = c .before .before .speak .ensures .said in omega (arith, s .full, s .short)
+
+slice-aggregate-meet : tie.Need-slice-aggregate-meet
+slice-aggregate-meet c =
+    let s = c .before .before .before .speak .ensures .said in
+    sym (length-take-le _ _ (omega (arith, s .full, s .short)))
+
+meet-requires : tie.Need-meet-requires
+meet-requires c κs =
+    let s = c .before .before .before .before .before .before .before in
+    let w = c .before .before .before .speak .ensures in
+    let u = both-turn (s .pre .0) (w .turn) in (
+      u .0,
+      u .1,
+      subst (λ (x : List ℕ). well-formed x ≡ true) (sym (w .said .message-is)) (s .pre .0 .speaking .formed),
+      subst (λ (x : List ℕ). length x ≤ 285) (sym (w .said .message-is)) (said-size (w .said)),
+    )
 
 same-length : tie.Need-same-length
 same-length c = search needs
 
 returns : tie.Need-returns
 returns c =
-    let s = c .before .before .before .before .before .before .before in
-    spoken-as (ready-device (s .pre .0) (c .before .before .before .before .if1 .taken)) (c .before .before .exchange .ensures)
-
-exchange-requires-2 : tie.Need-exchange-requires-2
-exchange-requires-2 c κs =
-    let s = c .before .before .before .before in
-    let r = ready-host (s .pre .0) (c .before .if1 .left) in
-    (s .pre .0 .p-sound, r .has, r .d-turn, r .p-turn, s .pre .1)
-
-same-length-2 : tie.Need-same-length-2
-same-length-2 c = search needs
-
-returns-2 : tie.Need-returns-2
-returns-2 c =
-    let s = c .before .before .before .before .before .before .before in
-    spoken-as (ready-host (s .pre .0) (c .before .before .before .before .if1 .left)) (c .before .before .exchange2 .ensures)
+    let s = c .before .before .before .before .before .before .before .before in
+    let a = s .args in
+    let w = c .before .before .before .before .speak .ensures in
+    let u = both-turn (s .pre .0) (w .turn) in
+    record {
+      pair-is =
+          c .meet .ensures
+          ∙ ap (λ (x : List ℕ). settled (a .i) (a .j) (c .before .before .before .before .speak .result .side) (allows (view (D s)) (a .i) (read x)) (allows (view (P s)) (a .j) (read x))) (w .said .message-is)
+          ∙ effect-settled (view (D s)) (view (P s)) (a .i) (a .j) _ _ (w .whose) (s .pre .0 .speaking .formed) (u .0 .turn) (u .1 .turn);
+      at-is = w .said .at-is;
+      most = w .said .most;
+      most-low = w .said .most-low;
+      written = w .said .written;
+    }
 
 pub turn-spec : {M : Type 1} → statement M
 turn-spec =
     tie.close
     (tie.spec
-    element-copy-out-if1
-    exchange-requires
+    speak-requires
+    array-share-prefix-message
+    slice-aggregate-meet
+    meet-requires
     same-length
-    returns
-    exchange-requires-2
-    same-length-2
-    returns-2)
+    returns)

@@ -1,4 +1,4 @@
--- `summary::play/moves` meets its contract. Assumes nothing.
+-- `summary::play::columns_moves` meets its contract. Assumes nothing.
 use mathlib.Core.Path.{_∙_}
 use Prim.Native.Nat.{_-_}
 use native.Mathlib.Omega.{arith}
@@ -6,19 +6,21 @@ use lib.ListN.{take}
 use borrow.Author.Needs.{needs}
 use Rattle.message.specs.Make.{highOf}
 use Rattle.summary.proofs.Rounds.{Playing, many, shows-start, shows-length, shows-room, shows-ready, shows-more, shows-end}
-use Rattle.summary.proofs.play.moves.Statement.{statement}
-use Rattle.summary.proofs.play.moves.Tie as tie
-use Rattle.summary.proofs.play.moves.Reads as reads
-use Rattle.summary.proofs.play.moves.Lts as lts
+use Rattle.summary.proofs.play.columns_moves.Statement.{statement}
+use Rattle.summary.proofs.play.columns_moves.Tie as tie
+use Rattle.summary.proofs.play.columns_moves.Reads as reads
+use Rattle.summary.proofs.play.columns_moves.Lts as lts
 use Rattle.summary.proofs.play.field_at.Reads as field-at-reads
 use Rattle.summary.proofs.play.turn.Reads as turn-reads
 use Rattle.summary.proofs.write.ending.Reads as ending-reads
+use Rattle.table.specs.View.{columns}
 
 abbrev Inv-loop : tie.InvT-loop
-Inv-loop device protocol list count high out₀ at pair₀ next₀ n₀ out pair next n = Playing device protocol (take count list) (highOf high) at out₀ out pair next n
+Inv-loop dstates dbranches dsort downer dtarget dfields dlabel dkind dlow dhigh pstates pbranches psort powner ptarget pfields plabel pkind plow phigh list count named out₀ at pair₀ next₀ n₀ out pair next n =
+    Playing (columns dstates dbranches dsort downer dtarget dfields dlabel dkind dlow dhigh) (columns pstates pbranches psort powner ptarget pfields plabel pkind plow phigh) (take count list) (highOf named) at out₀ out pair next n
 
 abbrev μ-loop : tie.MeasureT-loop
-μ-loop device protocol list count high out₀ at pair₀ next₀ n₀ out pair next n = count - n
+μ-loop dstates dbranches dsort downer dtarget dfields dlabel dkind dlow dhigh pstates pbranches psort powner ptarget pfields plabel pkind plow phigh list count named out₀ at pair₀ next₀ n₀ out pair next n = count - n
 
 loop-holds : tie.Need-loop-holds Inv-loop μ-loop
 loop-holds c =
@@ -71,8 +73,8 @@ returns c =
     let q = c .before .before .before .before .before .before .before .pre in
     shows-end _ _ _ _ _ (q .0) (q .1) (q .2) (c .before .before .before .before .before .loop .inv) (c .before .before .before .before .loop-test .left) (c .before .before .ending .ensures)
 
-pub moves-spec : {M : Type 1} → statement M
-moves-spec =
+pub columns-moves-spec : {M : Type 1} → statement M
+columns-moves-spec =
     tie.close
     (tie.spec
     Inv-loop
