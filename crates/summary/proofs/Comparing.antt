@@ -3,7 +3,6 @@
 use mathlib.Core.Path.{_≡_, refl, sym, ap, ap₂, _∙_, subst, subst₂}
 use mathlib.Core.Bool.{true}
 use mathlib.Core.List.{List, _++_}
-use mathlib.Core.Option.{Option}
 use Prim.Native.Nat.{ℕ, _+_, _*_, _≤_, _<_}
 use native.Mathlib.Omega.{arith}
 use lib.ListN.{length, take, drop, length-append, length-drop}
@@ -23,11 +22,11 @@ use Rattle.fit.specs.Machine.{fresh, run}
 use Rattle.fit.specs.Fit.{Failing}
 use Rattle.fit.specs.Answer.{Answered, answerOf, asks, Failed, Fewest}
 use Rattle.fit.specs.declared.Fitting.{Fitting}
-use Rattle.fit.specs.declared.Fitting.the-variants as F
 use Rattle.fit.proofs.Answers.{room-most}
 use Rattle.summary.specs.Ascii.{ascii, decimal}
-use Rattle.summary.specs.Report.{line, fit, refused, no-fit, Compared, fits, fails, Reported, Written}
+use Rattle.summary.specs.Report.{line, fit, refused, no-fit, Compared, fits, fails, Written}
 use Rattle.summary.specs.Playing.{rest, Shows, Opened, Composed}
+use Rattle.fit.specs.declared.Fitting.the-variants as F
 use Rattle.table.specs.declared.Table as D
 
 -- ---- two sound tables

@@ -1,7 +1,7 @@
 -- A move at a pair of states of one sort: where the two tables lead with its message is the machine's effect; and whose move it is.
 -- Assumes nothing.
 use mathlib.Core.Path.{_≡_, refl, sym, ap, _∙_, subst}
-use mathlib.Core.Bool.{Bool, true, false, _&&_, false≢true}
+use mathlib.Core.Bool.{true, false, false≢true}
 use mathlib.Core.Logic.{⊎-elim}
 use mathlib.Core.List.{List, []}
 use mathlib.Core.Option.{Option, none, some}
@@ -22,10 +22,10 @@ use Rattle.message.proofs.Making.{branch-legal, made-count}
 use Rattle.monitor.specs.declared.Party.{Party}
 use Rattle.monitor.specs.declared.Party.the-variants.{Device, Host}
 use Rattle.monitor.specs.Step.{speaker}
-use Rattle.fit.specs.Machine.{Side, device, host, Move, Effect, from-device, from-host, by-turn, effect, same-sort}
+use Rattle.fit.specs.Machine.{Move, from-device, from-host, by-turn, effect, same-sort}
 use Rattle.fit.specs.Fit.{named, spoken}
 use Rattle.summary.specs.Lines.{sideOf}
-use Rattle.summary.specs.Playing.{Turn, Stand, settled, is-device, kept, blames, line-of, Said-by, Speaking, Spoken-by, Ready}
+use Rattle.summary.specs.Playing.{Turn, settled, is-device, kept, blames, line-of, Said-by, Speaking, Spoken-by, Ready}
 use Rattle.summary.specs.declared.play.Said.{Said}
 use Rattle.table.specs.declared.Table as D
 

@@ -2,21 +2,20 @@
 -- states that is kept, and after the last one the pair says how it stands.
 -- Assumes nothing.
 use mathlib.Core.Path.{_≡_, refl, sym, ap, ap₂, _∙_, subst, subst₂}
-use mathlib.Core.Logic.{⊎-elim}
 use mathlib.Core.Bool.{Bool, true, false, cond, false≢true}
-use mathlib.Core.List.{List, [], _∷_, _++_, append-assoc, append-nil}
+use mathlib.Core.List.{List, [], _∷_, _++_, append-assoc}
 use mathlib.Core.Option.{Option, none, some}
-use Prim.Native.Nat.{ℕ, zero, suc, _+_, _-_, _*_, _≤_, _<_}
+use Prim.Native.Nat.{ℕ, _+_, _-_, _*_, _≤_, _<_}
 use native.Mathlib.Numerals.{add-one}
 use native.Mathlib.Omega.{arith}
 use lib.ListN.{length, getD, take, drop, length-append, length-drop}
 use lib.Seq.{drop-cons, drop-length, length-take-le, getD-take}
 use lib.Dec.{ltb}
 use borrow.Author.Tests.{lt-ltb, le-ltb}
-use Rattle.table.specs.Table.{Table, sort}
+use Rattle.table.specs.Table.{sort}
 use Rattle.table.specs.View.{view, soundOf}
 use Rattle.table.proofs.Facts.{sound-facts, sorts-of}
-use Rattle.message.specs.Message.{Message, read}
+use Rattle.message.specs.Message.{Message}
 use Rattle.message.specs.Judge.{allows}
 use Rattle.message.specs.Layout.{put}
 use Rattle.message.proofs.Pieces.{put-length, put-put, put-none}

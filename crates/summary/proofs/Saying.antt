@@ -1,10 +1,10 @@
 -- A branch's message, as it is made and as its line shows it.
 -- Assumes nothing.
 use mathlib.Core.Path.{_≡_, sym, ap, ap₂, _∙_}
-use mathlib.Core.Bool.{true, _&&_}
+use mathlib.Core.Bool.{true}
 use mathlib.Core.List.{List, _++_}
 use mathlib.Core.Option.{Option}
-use Prim.Native.Nat.{ℕ, _+_, _≤_, _<_}
+use Prim.Native.Nat.{ℕ, _≤_, _<_}
 use native.Mathlib.Omega.{arith}
 use lib.ListN.{length, getD, take, drop, length-append, length-drop}
 use lib.Seq.{take-append-seam}
@@ -18,11 +18,11 @@ use Rattle.table.proofs.Parts.{Legal}
 use Rattle.message.specs.Message.{Message, read, well-formed}
 use Rattle.message.specs.Make.{made, said, branch, exists, names-field, opening, told, Making, making}
 use Rattle.message.specs.declared.Made.{Made}
-use Rattle.message.specs.declared.Made.the-variants as M
 use Rattle.message.proofs.Columns.{branch-at, made-size, texts-few, says-length}
 use Rattle.message.proofs.Making.{branch-legal, made-read, made-well-formed}
 use Rattle.fit.specs.Machine.{Side}
 use Rattle.summary.specs.Report.{line, direction, letters, high, move-line}
+use Rattle.message.specs.declared.Made.the-variants as M
 use Rattle.table.specs.declared.Table as D
 
 module _ (t : D.Table) (s : soundOf t ≡ true) (k : ℕ) (h : Option ℕ) (x : exists (view t) k h ≡ true) where

@@ -11,6 +11,7 @@ use Rattle.table.specs.Table.{Table, sort}
 use Rattle.table.specs.View.{view, soundOf}
 use Rattle.message.specs.Message.{count-of, well-formed, read}
 use Rattle.message.specs.Judge.{allows}
+use Rattle.message.specs.Make.{opening}
 use Rattle.message.specs.Layout.{put}
 use Rattle.monitor.specs.declared.Party.{Party}
 use Rattle.monitor.specs.declared.Party.the-variants as P

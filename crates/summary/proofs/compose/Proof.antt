@@ -1,24 +1,13 @@
 -- `summary::compose` meets its contract. Assumes nothing.
+use borrow.Author.Needs.{needs}
 use Rattle.summary.specs.Lines.{whoseOf}
 use Rattle.summary.proofs.Places.{small}
 use Rattle.summary.proofs.Comparing.{sound-of, composed-protocol, composed-device, composed-compared}
-use borrow.Author.Needs.{needs}
 use Rattle.summary.proofs.compose.Statement.{statement}
 use Rattle.summary.proofs.compose.Tie as tie
-use Rattle.summary.proofs.compose.Reads as reads
-use Rattle.summary.proofs.compose.Lts as lts
-use Rattle.summary.proofs.compare.Reads as compare-reads
-use Rattle.summary.proofs.write.refused.Reads as refused-reads
-use Rattle.text.proofs.read.Reads as read-reads
-
-read-requires : tie.Need-read-requires
-read-requires c κs = search needs
 
 cast-refused : tie.Need-cast-refused
 cast-refused c = record { fits = small (c .before .before .before .before .before .before .before .args .protocol .now) _ (c .before .before .before .before .read .ensures) }
-
-refused-requires : tie.Need-refused-requires
-refused-requires c κs = search needs
 
 returns : tie.Need-returns
 unfolding whoseOf
@@ -26,14 +15,8 @@ returns c =
     let a = c .before .before .before .before .before .before .before .before .args in
     composed-protocol (a .protocol .now) (a .device .now) (a .out .now) _ (c .before .before .before .before .before .read .ensures) (c .before .before .before .if1 .taken) (search needs) (c .refused .ensures)
 
-read-requires-2 : tie.Need-read-requires-2
-read-requires-2 c κs = search needs
-
 cast-refused-2 : tie.Need-cast-refused-2
 cast-refused-2 c = record { fits = small (c .before .before .before .before .before .before .before .before .before .before .args .device .now) _ (c .before .before .before .before .read2 .ensures) }
-
-refused-requires-2 : tie.Need-refused-requires-2
-refused-requires-2 c κs = search needs
 
 returns-2 : tie.Need-returns-2
 unfolding whoseOf
@@ -59,13 +42,13 @@ pub compose-spec : {M : Type 1} → statement M
 compose-spec =
     tie.close
     (tie.spec
-    read-requires
+    (λ c. search needs)  -- read-requires
     cast-refused
-    refused-requires
+    (λ c. search needs)  -- refused-requires
     returns
-    read-requires-2
+    (λ c. search needs)  -- read-requires-2
     cast-refused-2
-    refused-requires-2
+    (λ c. search needs)  -- refused-requires-2
     returns-2
     compare-requires
     returns-3)

@@ -6,14 +6,9 @@ use lib.ListN.{take}
 use borrow.Author.Needs.{needs}
 use Rattle.message.specs.Make.{highOf}
 use Rattle.summary.proofs.Rounds.{Playing, many, shows-start, shows-length, shows-room, shows-ready, shows-more, shows-end}
+use Rattle.table.specs.View.{columns}
 use Rattle.summary.proofs.play.columns_moves.Statement.{statement}
 use Rattle.summary.proofs.play.columns_moves.Tie as tie
-use Rattle.summary.proofs.play.columns_moves.Reads as reads
-use Rattle.summary.proofs.play.columns_moves.Lts as lts
-use Rattle.summary.proofs.play.field_at.Reads as field-at-reads
-use Rattle.summary.proofs.play.turn.Reads as turn-reads
-use Rattle.summary.proofs.write.ending.Reads as ending-reads
-use Rattle.table.specs.View.{columns}
 
 abbrev Inv-loop : tie.InvT-loop
 Inv-loop dstates dbranches dsort downer dtarget dfields dlabel dkind dlow dhigh pstates pbranches psort powner ptarget pfields plabel pkind plow phigh list count named out₀ at pair₀ next₀ n₀ out pair next n =
@@ -29,12 +24,6 @@ loop-holds c =
 
 field-at-requires : tie.Need-field-at-requires Inv-loop μ-loop
 field-at-requires c κs = c .loop-test .taken
-
-cast-turn : tie.Need-cast-turn Inv-loop μ-loop
-cast-turn c = search needs
-
-mul-turn : tie.Need-mul-turn Inv-loop μ-loop
-mul-turn c = search needs
 
 element-copy-out-turn : tie.Need-element-copy-out-turn Inv-loop μ-loop
 element-copy-out-turn c = omega (arith, c .before .loop-test .taken, c .before .before .before .before .pre .0 .few)
@@ -81,8 +70,8 @@ columns-moves-spec =
     μ-loop
     loop-holds
     field-at-requires
-    cast-turn
-    mul-turn
+    (λ c. search needs)  -- cast-turn
+    (λ c. search needs)  -- mul-turn
     element-copy-out-turn
     turn-requires
     add-n

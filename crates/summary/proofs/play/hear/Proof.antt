@@ -1,21 +1,18 @@
--- `summary::play/hear` meets its contract. Assumes nothing.
+-- `summary::play::hear` meets its contract. Assumes nothing.
 use mathlib.Core.Path.{_≡_, sym, ap, _∙_}
 use Prim.Native.Nat.{ℕ}
 use native.Mathlib.Omega.{arith}
 use lib.ListN.{replicate, length-replicate}
+use borrow.Author.Needs.{needs}
 use Rattle.table.specs.View.{view, columns}
 use Rattle.message.specs.Message.{read}
 use Rattle.message.specs.Judge.{allows}
 use Rattle.monitor.specs.declared.Verdict.{Verdict}
 use Rattle.summary.specs.Playing.{heardOf}
 use Rattle.summary.proofs.Hearing.{heard-as, hears}
-use Rattle.table.specs.declared.Table as Columns
-use borrow.Author.Needs.{needs}
 use Rattle.summary.proofs.play.hear.Statement.{statement}
+use Rattle.table.specs.declared.Table as Columns
 use Rattle.summary.proofs.play.hear.Tie as tie
-use Rattle.summary.proofs.play.hear.Reads as reads
-use Rattle.summary.proofs.play.hear.Lts as lts
-use Rattle.monitor.proofs.columns_step.Reads as columns-step-reads
 
 abbrev T : tie.Start → Columns.Table
 T c = columns (c .args .states) (c .args .branches) (c .args .sort .now) (c .args .owner .now) (c .args .target .now) (c .args .fields .now) (c .args .label .now) (c .args .kind .now) (c .args .low .now) (c .args .high .now)
@@ -30,21 +27,6 @@ heard c e =
     let q = s .pre in
     sym (ap (λ (v : Verdict). heard-as v (c .before .columns-step .result .state)) e)
     ∙ hears (T s) (a .position) (a .side) (q .0) (a .message .now) (q .1) (replicate 285 0) (omega (arith, q .2, length-replicate {A = ℕ} 285 0)) (c .before .columns-step .result) _ (c .before .columns-step .ensures)
-
-slice-aggregate-columns-step : tie.Need-slice-aggregate-columns-step
-slice-aggregate-columns-step c = search needs
-
-columns-step-requires : tie.Need-columns-step-requires
-columns-step-requires c κs = search needs
-
-enum-told : tie.Need-enum-told
-enum-told c = search needs
-
-enum-told-2 : tie.Need-enum-told-2
-enum-told-2 c = search needs
-
-enum-told-3 : tie.Need-enum-told-3
-enum-told-3 c = search needs
 
 returns : tie.Need-returns
 unfolding heardOf heard-as
@@ -62,11 +44,11 @@ pub hear-spec : {M : Type 1} → statement M
 hear-spec =
     tie.close
     (tie.spec
-    slice-aggregate-columns-step
-    columns-step-requires
-    enum-told
-    enum-told-2
-    enum-told-3
+    (λ c. search needs)  -- slice-aggregate-columns-step
+    (λ c. search needs)  -- columns-step-requires
+    (λ c. search needs)  -- enum-told
+    (λ c. search needs)  -- enum-told-2
+    (λ c. search needs)  -- enum-told-3
     returns
     returns-2
     returns-3)

@@ -1,53 +1,28 @@
--- `summary::play/say` meets its contract. Assumes nothing.
+-- `summary::play::say` meets its contract. Assumes nothing.
 use mathlib.Core.Path.{refl, ap, _∙_}
 use mathlib.Core.List.{List}
 use Prim.Native.Nat.{ℕ, _+_}
 use native.Mathlib.Omega.{arith}
 use lib.ListN.{length}
+use borrow.Author.Needs.{needs}
 use Rattle.table.specs.View.{columns}
-use Rattle.table.specs.declared.Table as Columns
 use Rattle.table.proofs.Facts.{sound-facts}
 use Rattle.message.specs.Make.{highOf}
 use Rattle.message.specs.Layout.{put}
 use Rattle.summary.specs.Lines.{sideOf}
 use Rattle.summary.proofs.Saying.{branch-there, line-shown, full, short, message-is, never-refused}
-use borrow.Author.Needs.{needs}
 use Rattle.summary.proofs.play.say.Statement.{statement}
+use Rattle.table.specs.declared.Table as Columns
 use Rattle.summary.proofs.play.say.Tie as tie
-use Rattle.summary.proofs.play.say.Reads as reads
-use Rattle.summary.proofs.play.say.Lts as lts
-use Rattle.message.proofs.columns_make.Reads as columns-make-reads
-use Rattle.summary.proofs.write.move_line.Reads as move-line-reads
 
 abbrev T : tie.Start → Columns.Table
 T c = columns (c .args .states) (c .args .branches) (c .args .sort .now) (c .args .owner .now) (c .args .target .now) (c .args .fields .now) (c .args .label .now) (c .args .kind .now) (c .args .low .now) (c .args .high .now)
-
-columns-make-requires : tie.Need-columns-make-requires
-columns-make-requires c κs = search needs
-
-mul-move-line : tie.Need-mul-move-line
-mul-move-line c = search needs
 
 element-copy-out-move-line : tie.Need-element-copy-out-move-line
 element-copy-out-move-line c =
     let s = c .before .before .before .before in
     let l = branch-there (T s) (s .pre .0) (s .args .k) (highOf (s .args .named)) (s .pre .1) in
     omega (arith, l, sound-facts (T s) (s .pre .0) .room)
-
-move-line-requires : tie.Need-move-line-requires
-move-line-requires c κs = search needs
-
-enum-known-m : tie.Need-enum-known-m
-enum-known-m c = search needs
-
-cast-t30 : tie.Need-cast-t30
-cast-t30 c = search needs
-
-enum-told : tie.Need-enum-told
-enum-told c = search needs
-
-same-length : tie.Need-same-length
-same-length c = search needs
 
 returns : tie.Need-returns
 returns c =
@@ -68,9 +43,6 @@ returns c =
       written = w .1 ∙ ap (λ (x : List ℕ). put (a .at) x (a .out .now)) l;
     }
 
-same-length-2 : tie.Need-same-length-2
-same-length-2 c = search needs
-
 returns-2 : tie.Need-returns-2
 returns-2 c =
     let s = c .before .before .before .before .before .before .before .before .before .before in
@@ -82,14 +54,14 @@ pub say-spec : {M : Type 1} → statement M
 say-spec =
     tie.close
     (tie.spec
-    columns-make-requires
-    mul-move-line
+    (λ c. search needs)  -- columns-make-requires
+    (λ c. search needs)  -- mul-move-line
     element-copy-out-move-line
-    move-line-requires
-    enum-known-m
-    cast-t30
-    enum-told
-    same-length
+    (λ c. search needs)  -- move-line-requires
+    (λ c. search needs)  -- enum-known-m
+    (λ c. search needs)  -- cast-t30
+    (λ c. search needs)  -- enum-told
+    (λ c. search needs)  -- same-length
     returns
-    same-length-2
+    (λ c. search needs)  -- same-length-2
     returns-2)

@@ -1,13 +1,10 @@
--- `summary::play/speak` meets its contract. Assumes nothing.
+-- `summary::play::speak` meets its contract. Assumes nothing.
 use native.Mathlib.Omega.{arith}
+use borrow.Author.Needs.{needs}
 use Rattle.table.proofs.Facts.{sound-facts}
 use Rattle.summary.proofs.Moving.{spoken-as, speaks-device, speaks-host}
-use borrow.Author.Needs.{needs}
 use Rattle.summary.proofs.play.speak.Statement.{statement}
 use Rattle.summary.proofs.play.speak.Tie as tie
-use Rattle.summary.proofs.play.speak.Reads as reads
-use Rattle.summary.proofs.play.speak.Lts as lts
-use Rattle.summary.proofs.play.say.Reads as say-reads
 
 element-copy-out-if1 : tie.Need-element-copy-out-if1
 element-copy-out-if1 c = let r = c .before .pre .0 in omega (arith, r .i-inside, sound-facts _ (r .d-sound) .few)
@@ -17,9 +14,6 @@ say-requires c κs =
     let s = c .before .before .before .before .before in
     let r = speaks-device (s .pre .0) (c .before .before .if1 .taken) in
     (s .pre .0 .d-sound, r .has, s .pre .1, s .pre .2)
-
-same-length : tie.Need-same-length
-same-length c = search needs
 
 returns : tie.Need-returns
 returns c =
@@ -32,9 +26,6 @@ say-requires-2 c κs =
     let r = speaks-host (s .pre .0) (c .before .before .if1 .left) in
     (s .pre .0 .p-sound, r .has, s .pre .1, s .pre .2)
 
-same-length-2 : tie.Need-same-length-2
-same-length-2 c = search needs
-
 returns-2 : tie.Need-returns-2
 returns-2 c =
     let s = c .before .before .before .before .before .before .before .before in
@@ -46,8 +37,8 @@ speak-spec =
     (tie.spec
     element-copy-out-if1
     say-requires
-    same-length
+    (λ c. search needs)  -- same-length
     returns
     say-requires-2
-    same-length-2
+    (λ c. search needs)  -- same-length-2
     returns-2)

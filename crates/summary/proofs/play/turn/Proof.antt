@@ -1,4 +1,4 @@
--- `summary::play/turn` meets its contract. Assumes nothing.
+-- `summary::play::turn` meets its contract. Assumes nothing.
 use mathlib.Core.Path.{_≡_, sym, ap, subst, _∙_}
 use mathlib.Core.Bool.{true}
 use mathlib.Core.List.{List}
@@ -6,19 +6,15 @@ use Prim.Native.Nat.{ℕ, _≤_}
 use native.Mathlib.Omega.{arith}
 use lib.ListN.{length, length-replicate}
 use lib.Seq.{length-take-le}
+use borrow.Author.Needs.{needs}
 use Rattle.table.specs.View.{view, columns}
 use Rattle.message.specs.Message.{read, well-formed}
 use Rattle.message.specs.Judge.{allows}
 use Rattle.summary.specs.Playing.{settled}
 use Rattle.summary.proofs.Moving.{effect-settled, said-size, both-turn}
-use Rattle.table.specs.declared.Table as Columns
-use borrow.Author.Needs.{needs}
 use Rattle.summary.proofs.play.turn.Statement.{statement}
+use Rattle.table.specs.declared.Table as Columns
 use Rattle.summary.proofs.play.turn.Tie as tie
-use Rattle.summary.proofs.play.turn.Reads as reads
-use Rattle.summary.proofs.play.turn.Lts as lts
-use Rattle.summary.proofs.play.meet.Reads as meet-reads
-use Rattle.summary.proofs.play.speak.Reads as speak-reads
 
 abbrev D : tie.Start → Columns.Table
 D c = columns (c .args .dstates) (c .args .dbranches) (c .args .dsort .now) (c .args .downer .now) (c .args .dtarget .now) (c .args .dfields .now) (c .args .dlabel .now) (c .args .dkind .now) (c .args .dlow .now) (c .args .dhigh .now)
@@ -50,9 +46,6 @@ meet-requires c κs =
       subst (λ (x : List ℕ). length x ≤ 285) (sym (w .said .message-is)) (said-size (w .said)),
     )
 
-same-length : tie.Need-same-length
-same-length c = search needs
-
 returns : tie.Need-returns
 returns c =
     let s = c .before .before .before .before .before .before .before .before in
@@ -78,5 +71,5 @@ turn-spec =
     array-share-prefix-message
     slice-aggregate-meet
     meet-requires
-    same-length
+    (λ c. search needs)  -- same-length
     returns)
