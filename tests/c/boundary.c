@@ -465,13 +465,13 @@ static void failures(void)
 /* The report of two texts is this one, with just enough room; with a byte less nothing changes. */
 static void report_is(const char *protocol, const char *device, const char *text)
 {
-    uint8_t out[64];
+    uint8_t page[64];
     const size_t length = strlen(text);
-    memset(out, 0xEE, sizeof out);
     const uint8_t *const p = (const uint8_t *)protocol, *const d = (const uint8_t *)device;
-    CHECK(sojimu_report(p, strlen(protocol), d, strlen(device), out, length - 1) == 0 && out[0] == 0xEE);
-    CHECK(sojimu_report(p, strlen(protocol), d, strlen(device), out, length) == length);
-    CHECK(memcmp(out, text, length) == 0 && out[length] == 0xEE);
+    memset(page, 0xEE, sizeof page);
+    CHECK(sojimu_report(p, strlen(protocol), d, strlen(device), page, length - 1) == 0 && page[0] == 0xEE);
+    CHECK(sojimu_report(p, strlen(protocol), d, strlen(device), page, length) == length);
+    CHECK(memcmp(page, text, length) == 0 && page[length] == 0xEE);
 }
 
 static void reports(void)
