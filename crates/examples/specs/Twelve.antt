@@ -5,9 +5,8 @@ use mathlib.Core.Path.{_≡_}
 use mathlib.Core.Logic.{_↔_}
 use mathlib.Core.List.{List, [], _∷_}
 use mathlib.Core.Option.{none, some}
-use Prim.Native.Nat.{ℕ, zero, suc, _*_, _≤_}
-use Prim.Native.Char.{code}
-use Prim.Native.String.{String, len, charAt}
+use Prim.Native.Nat.{ℕ, _*_, _≤_}
+use Prim.Native.String.{String}
 use lib.ListN.{length}
 use Rattle.table.specs.View.{view}
 use Rattle.table.specs.declared.Table.{Table}
@@ -19,17 +18,10 @@ use Rattle.monitor.specs.declared.Standing.the-variants.{Running, DeviceBlamed}
 use Rattle.monitor.specs.Step.{Told, refused, blamed, forwarded, Stepping, fresh, stepping}
 use Rattle.fit.specs.Machine.{jammed, run}
 use Rattle.fit.specs.Answer.{Answer, fits, fails, Answered}
+use Rattle.summary.specs.Ascii.{ascii}
 use Rattle.text.specs.Building as B
 
 -- ---- texts
-
--- the bytes of a text without bytes above 0x7F
-abbrev from : ℕ → String → ℕ → List ℕ
-from zero s i = []
-from (suc n) s i = code (charAt s i) ∷ from n s (suc i)
-
-abbrev pub ascii : String → List ℕ
-ascii s = from (len s) s 0
 
 -- no question gets a no
 abbrev pub Reads : String → Type 0
