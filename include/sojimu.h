@@ -225,6 +225,12 @@ struct sojimu_reading sojimu_read(const uint8_t *text, size_t length);
 size_t sojimu_report(const uint8_t *protocol, size_t protocol_length, const uint8_t *device, size_t device_length, uint8_t *out,
                      size_t room);
 
+/* Question 9 where a position is given with the table: is it sound, and the position one of its states? */
+bool sojimu_sound_at(struct sojimu_table table, uint8_t position);
+
+/* The table that a refusal gives back: all 0. It is not sound. */
+struct sojimu_table sojimu_empty(void);
+
 /* The dual: sending and receiving exchanged. Asks 9. */
 struct sojimu_turned sojimu_dual(struct sojimu_table table);
 

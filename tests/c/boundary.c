@@ -165,7 +165,11 @@ static void tables(void)
     CHECK(dd.question == 0 && same_tables(&dd.table, &p));
 
     CHECK(!sojimu_sound(&empty));
+    const struct sojimu_table none = sojimu_empty();
+    CHECK(same_tables(&none, &empty));
+    CHECK(sojimu_sound_at(p, 0) && sojimu_sound_at(p, 2) && !sojimu_sound_at(p, 3) && !sojimu_sound_at(empty, 0));
     p.target[2] = 3;
+    CHECK(!sojimu_sound_at(p, 0));
     CHECK(!sojimu_sound(&p));
     const struct sojimu_turned no = sojimu_dual(p);
     CHECK(no.question == 9 && same_tables(&no.table, &empty));

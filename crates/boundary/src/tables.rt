@@ -1,7 +1,7 @@
 // Question 9, its two leaves, and the dual.
 ghost use mathlib.Core.Path.{_≡_};
 ghost use Rattle.table.specs.Table.{legal-label, legal-field};
-ghost use Rattle.table.specs.View.{labelOf, columns, soundOf, dualOf};
+ghost use Rattle.table.specs.View.{labelOf, columns, soundOf, soundAt, emptyTable, dualOf};
 use table::Table;
 use table::Turned;
 
@@ -33,6 +33,22 @@ pub extern "C" fn sojimu_columns_sound<'a>(
         low,
         high,
     )
+}
+
+// Question 9 where a position is given with the table.
+#[no_mangle]
+pub extern "C" fn sojimu_sound_at(table: Table, position: u8) -> bool
+    ensures { λ r. ⌜ r ≡ soundAt table position ⌝ }
+{
+    table::sound_at(table, position)
+}
+
+// The table that a refusal gives back.
+#[no_mangle]
+pub extern "C" fn sojimu_empty() -> Table
+    ensures { λ r. ⌜ r ≡ emptyTable ⌝ }
+{
+    table::empty()
 }
 
 // The dual, or 9 and the empty table.

@@ -36,6 +36,8 @@ fn one(random: &mut Random, columns: &Raw, tally: &mut Tally) -> Outcome {
     let sound = both.proved.sound();
     tally.asked((!sound).then_some(Question(9)));
     tally.same("sound", sound, columns.sound(), show)?;
+    let position = random.below(34) as u8;
+    tally.same("sound at", both.proved.sound_at(position), columns.sound_at(usize::from(position)), show)?;
 
     let dual = both.proved.dual();
     tally.asked(dual.as_ref().err().copied());

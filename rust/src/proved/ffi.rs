@@ -126,6 +126,8 @@ over_columns! {
 // SAFETY: the signatures are those of the exported functions. What is `safe` takes values alone.
 unsafe extern "C" {
     fn sojimu_read(text: *const u8, length: usize) -> Reading;
+    safe fn sojimu_sound_at(table: Table, position: u8) -> bool;
+    safe fn sojimu_empty() -> Table;
     safe fn sojimu_dual(table: Table) -> Turned;
     safe fn sojimu_label_legal(label: u64) -> bool;
     safe fn sojimu_range_legal(kind: u8, low: u32, high: u32) -> bool;
@@ -180,6 +182,16 @@ pub fn dual(table: Table) -> Turned {
 pub fn sound(table: &Table) -> bool {
     // SAFETY: every argument is a value or a reference to a whole column.
     unsafe { call!(sojimu_columns_sound, table) }
+}
+
+#[inline]
+pub fn sound_at(table: Table, position: u8) -> bool {
+    sojimu_sound_at(table, position)
+}
+
+#[inline]
+pub fn empty() -> Table {
+    sojimu_empty()
 }
 
 #[inline]

@@ -53,19 +53,9 @@ impl Table {
     /// ```
     /// assert!(!sojimu::Table::empty().sound());
     /// ```
-    pub const fn empty() -> Table {
-        Table {
-            states: 0,
-            branches: 0,
-            sort: [0; MOST_STATES],
-            owner: [0; MOST_BRANCHES],
-            target: [0; MOST_BRANCHES],
-            fields: [0; MOST_BRANCHES],
-            label: [0; MOST_BRANCHES],
-            kind: [0; MOST_FIELDS * MOST_BRANCHES],
-            low: [0; MOST_FIELDS * MOST_BRANCHES],
-            high: [0; MOST_FIELDS * MOST_BRANCHES],
-        }
+    #[inline]
+    pub fn empty() -> Table {
+        ffi::empty()
     }
 
     /// Reads a protocol text; asks 1 to 8.
@@ -98,6 +88,19 @@ impl Table {
     #[inline]
     pub fn sound(&self) -> bool {
         ffi::sound(self)
+    }
+
+    /// Question 9 where a position is given with the table: is it sound, and the position one of its states?
+    ///
+    /// ```
+    /// let table = sojimu::Table::read(b"+{!A().end}")?;
+    /// assert!(table.sound_at(1));
+    /// assert!(!table.sound_at(2));
+    /// # Ok::<(), sojimu::Refusal>(())
+    /// ```
+    #[inline]
+    pub fn sound_at(&self, position: u8) -> bool {
+        ffi::sound_at(self.clone(), position)
     }
 
     /// The same conversation as the other side sees it, sending and receiving exchanged; asks 9.
