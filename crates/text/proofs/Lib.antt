@@ -31,4 +31,3 @@ pub mod Prefix
 pub mod SoundTable
 pub mod Exactly
 pub mod Unique
-pub mod Examples
