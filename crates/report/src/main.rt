@@ -3,8 +3,8 @@ ghost use Rattle.io.specs.Counts.{Counts};
 use libc::STDOUT_FILENO;
 
 // Reads the file; a file that can't be opened is an empty text. A byte above the 8,192 that a text may have is enough to refuse it
-// by question 1, so the rest is left. Where a read fails, what came before it is the text: a text that is cut short is refused by 2
-// or 3, and never taken for another.
+// by question 1, so the rest is left. Where a read fails, what came before it is the text: one that would be read whole is then
+// refused, unless only spaces and line feeds are lost.
 fn load(name: &[u8], text: &mut [u8; 8193]) -> usize
     ensures { λ r. ⌜ Counts r (now (text .exit)) ⌝ }
 {
