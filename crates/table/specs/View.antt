@@ -1,15 +1,62 @@
--- The program's table of number columns, seen as a table of lists; and question 9 of document 01.
+-- The program's table, one list of 32-bit words, seen as a table of lists; and question 9 of document 01.
+-- Where each column begins is said here, in the functions `..At`, and in the constants of src/lib.rt, and nowhere else.
 -- Only the first `states` and `branches` entries are seen, of branch k the first `fields` at 4 * k.
+-- Places 2210 (an edition) and 2211 to 2338 (a share for each branch) are kept free: nothing looks at them.
 -- Assumes nothing.
 use Prim.Native.Nat.{ℕ, zero, suc, _+_, _*_, _/_, _%_}
 use mathlib.Core.Bool.{Bool, true, false, _&&_}
-use mathlib.Core.List.{List, [], _∷_, map}
+use mathlib.Core.List.{List, [], _∷_}
 use lib.ListN.{getD, replicate}
 use lib.Dec.{leb, ltb}
 use Rattle.table.specs.Lists.{every, upto}
 use Rattle.table.specs.Table as T
-use Rattle.table.specs.declared.Table as D
-use Rattle.table.specs.declared.Turned as U
+use Rattle.table.specs.declared.Turned.{Turned}
+
+abbrev pub Words : Type 0
+Words = List ℕ
+
+-- ---- columns
+
+abbrev pub statesOf : List ℕ → ℕ
+statesOf t = getD t 0 0
+
+abbrev pub branchesOf : List ℕ → ℕ
+branchesOf t = getD t 1 0
+
+-- a sort's code: 0 end, 1 sends, 2 receives
+abbrev pub sortAt : List ℕ → ℕ → ℕ
+sortAt t i = getD t (2 + i) 0
+
+abbrev pub ownerAt : List ℕ → ℕ → ℕ
+ownerAt t k = getD t (34 + k) 0
+
+abbrev pub targetAt : List ℕ → ℕ → ℕ
+targetAt t k = getD t (162 + k) 0
+
+-- how many fields
+abbrev pub countAt : List ℕ → ℕ → ℕ
+countAt t k = getD t (290 + k) 0
+
+-- a label's eight bytes as one number, high byte first, of two words
+abbrev pub labelWord : ℕ → ℕ → ℕ
+labelWord high low = high * 4294967296 + low
+
+abbrev pub wordAt : List ℕ → ℕ → ℕ
+wordAt t k = labelWord (getD t (418 + k) 0) (getD t (546 + k) 0)
+
+abbrev pub kindAt : List ℕ → ℕ → ℕ
+kindAt t k = getD t (674 + k) 0
+
+abbrev pub lowAt : List ℕ → ℕ → ℕ
+lowAt t k = getD t (1186 + k) 0
+
+abbrev pub highAt : List ℕ → ℕ → ℕ
+highAt t k = getD t (1698 + k) 0
+
+abbrev pub fieldAt : List ℕ → ℕ → T.Field
+fieldAt t k = record { kind = kindAt t k; low = lowAt t k; high = highAt t k }
+
+-- ---- the table
 
 -- the eight bytes of a label word, high byte first
 unfoldable pub labelOf : ℕ → List ℕ
@@ -24,50 +71,39 @@ labelOf w =
     ∷ w % 256
     ∷ []
 
--- a sort's code: 0 end, 1 sends, 2 receives
 unfoldable pub sortOf : ℕ → T.Sort
 sortOf zero = T.ends
 sortOf (suc zero) = T.sends
 sortOf (suc (suc n)) = T.receives
 
-abbrev pub fieldAt : D.Table → ℕ → T.Field
-fieldAt t k = record { kind = getD (t .kind) k 0; low = getD (t .low) k 0; high = getD (t .high) k 0 }
-
-abbrev pub branchAt : D.Table → ℕ → T.Branch
+abbrev pub branchAt : List ℕ → ℕ → T.Branch
 branchAt t k =
     record {
-      owner = getD (t .owner) k 0;
-      label = labelOf (getD (t .label) k 0);
-      fields = upto (getD (t .fields) k 0) (λ f. fieldAt t (4 * k + f));
-      target = getD (t .target) k 0;
+      owner = ownerAt t k;
+      label = labelOf (wordAt t k);
+      fields = upto (countAt t k) (λ f. fieldAt t (4 * k + f));
+      target = targetAt t k;
     }
 
-unfoldable pub view : D.Table → T.Table
-view t = record { sorts = upto (t .states) (λ i. sortOf (getD (t .sort) i 0)); branches = upto (t .branches) (branchAt t) }
-
--- a table of its columns
-abbrev pub columns : ℕ → ℕ → List ℕ → List ℕ → List ℕ → List ℕ → List ℕ → List ℕ → List ℕ → List ℕ → D.Table
-columns n m s o t f l k a b =
-    record { states = n; branches = m; sort = s; owner = o; target = t; fields = f; label = l; kind = k; low = a; high = b }
+unfoldable pub view : List ℕ → T.Table
+view t = record { sorts = upto (statesOf t) (λ i. sortOf (sortAt t i)); branches = upto (branchesOf t) (branchAt t) }
 
 -- what only a raw table can break and `view` does not show: a sort's code that is none
-unfoldable pub known : D.Table → Bool
-known t = every (λ c. leb c 2) (upto (t .states) (λ i. getD (t .sort) i 0))
+unfoldable pub known : List ℕ → Bool
+known t = every (λ c. leb c 2) (upto (statesOf t) (sortAt t))
 
 -- question 9: is the table sound?
-unfoldable pub soundOf : D.Table → Bool
+unfoldable pub soundOf : List ℕ → Bool
 soundOf t = known t && T.sound (view t)
 
 -- question 9 where a position is given: is it one of the table's states, too?
-unfoldable pub soundAt : D.Table → ℕ → Bool
-soundAt t position = soundOf t && ltb position (t .states)
+unfoldable pub soundAt : List ℕ → ℕ → Bool
+soundAt t position = soundOf t && ltb position (statesOf t)
 
 -- ---- the dual
 
-unfoldable pub emptyTable : D.Table
-emptyTable =
-    columns 0 0 (replicate 32 0) (replicate 128 0) (replicate 128 0) (replicate 128 0) (replicate 128 0) (replicate 512 0) (replicate 512 0)
-    (replicate 512 0)
+unfoldable pub emptyTable : List ℕ
+emptyTable = replicate 2340 0
 
 -- 1 and 2 are exchanged
 unfoldable pub oppositeOf : ℕ → ℕ
@@ -76,13 +112,25 @@ oppositeOf (suc zero) = 2
 oppositeOf (suc (suc zero)) = 1
 oppositeOf (suc (suc (suc n))) = suc (suc (suc n))
 
-unfoldable pub turned : D.Table → D.Table
-turned t =
-    columns (t .states) (t .branches) (map oppositeOf (t .sort)) (t .owner) (t .target) (t .fields) (t .label) (t .kind) (t .low) (t .high)
+-- the first n numbers
+unfoldable pub opposites : ℕ → List ℕ → List ℕ
+opposites zero r = r
+opposites (suc n) [] = []
+opposites (suc n) (a ∷ r) = oppositeOf a ∷ opposites n r
 
-abbrev pub answered : D.Table → Bool → U.Turned
+-- the first n sorts
+unfoldable pub turnedTo : ℕ → List ℕ → List ℕ
+turnedTo n [] = []
+turnedTo n (a ∷ []) = a ∷ []
+turnedTo n (a ∷ b ∷ r) = a ∷ b ∷ opposites n r
+
+abbrev pub turned : List ℕ → List ℕ
+turned t = turnedTo 32 t
+
+-- 0 and the dual; of a table that is not sound 9 and the empty table
+abbrev pub answered : List ℕ → Bool → Turned
 answered t true = record { question = 0; table = turned t }
 answered t false = record { question = 9; table = emptyTable }
 
-unfoldable pub dualOf : D.Table → U.Turned
+unfoldable pub dualOf : List ℕ → Turned
 dualOf t = answered t (soundOf t)

@@ -1,103 +1,84 @@
-// The table of document 01 as number columns, and question 9.
-// Public: the table by value. Inside: its columns, lent, so that nothing is copied and the plain loops vectorise.
+// The table of document 01 as one array of words, question 9, the dual, and a branch more.
+// A table is lent, and nothing of it is copied.
 ghost use mathlib.Core.Path.{_≡_};
 ghost use Prim.Native.Nat.{ℕ, _+_, _*_, _≤_, _<_};
-ghost use mathlib.Core.Bool.{true, not};
-ghost use lib.ListN.{getD};
-ghost use mathlib.Core.List.{map};
+ghost use mathlib.Core.Bool.{true};
 ghost use lib.Dec.{leb};
 ghost use Rattle.table.specs.Table.{legal-label, legal-field};
-ghost use Rattle.table.specs.View.{labelOf, columns, soundOf, soundAt, emptyTable, oppositeOf, dualOf};
-ghost use Rattle.table.specs.Scans.{all, legalAt, placed, twins, alone, markOf, Word, Members, Choices};
+ghost use Rattle.table.specs.View.{statesOf, sortAt, countAt, labelWord, wordAt, labelOf, soundOf, soundAt, emptyTable, oppositeOf, turned, dualOf};
+ghost use Rattle.table.specs.Scans.{all, legalAt, placed, alone, markOf, Word, Members, Choices};
 
-// Counts, then columns. Sorts: 0 end, 1 sends, 2 receives. A label's eight bytes, high byte first, filled up with 0x00.
-// Kinds: 0 int, 1 text, 2 flag. A number is kept as value + 2^31. Field f of branch b stands at 4 * b + f.
-#[repr(C)]
-pub struct Table {
-    pub states: u8,
-    pub branches: u8,
-    pub sort: [u8; 32],
-    pub owner: [u8; 128],
-    pub target: [u8; 128],
-    pub fields: [u8; 128],
-    pub label: [u64; 128],
-    pub kind: [u8; 512],
-    pub low: [u32; 512],
-    pub high: [u32; 512],
-}
+// Every word may be anything: question 9 says whether it is a table.
+pub type Table = [u32; 2340];
+
+// Where each column begins. Sorts: 0 end, 1 sends, 2 receives. A label is eight bytes, high byte first, filled up with 0x00, in two
+// words. Kinds: 0 int, 1 text, 2 flag. A number is kept as value + 2^31. Field f of branch b stands at 4 * b + f.
+pub const STATES: usize = 0;
+
+pub const BRANCHES: usize = 1;
+
+pub const SORT: usize = 2;
+
+pub const OWNER: usize = 34;
+
+pub const TARGET: usize = 162;
+
+pub const FIELDS: usize = 290;
+
+pub const LABEL_HIGH: usize = 418;
+
+pub const LABEL_LOW: usize = 546;
+
+pub const KIND: usize = 674;
+
+pub const LOW: usize = 1186;
+
+pub const HIGH: usize = 1698;
 
 // Question 9: is the table sound?
-pub fn sound(t: Table) -> bool
-    ensures { λ r. ⌜ r ≡ soundOf t ⌝ }
+pub fn sound(t: &Table) -> bool
+    ensures { λ r. ⌜ r ≡ soundOf (now (t .entry)) ⌝ }
 {
-    columns_sound(
-        t.states,
-        t.branches,
-        &t.sort,
-        &t.owner,
-        &t.target,
-        &t.fields,
-        &t.label,
-        &t.kind,
-        &t.low,
-        &t.high,
-    )
-}
-
-// Question 9 where a position is given: is it one of the table's states, too?
-pub fn sound_at(t: Table, position: u8) -> bool
-    ensures { λ r. ⌜ r ≡ soundAt t position ⌝ }
-{
-    if !sound(t) {
-        return false;
-    }
-    position < t.states
-}
-
-// Question 9 of a table whose columns are lent: nothing is copied.
-pub fn columns_sound<'a>(
-    states: u8,
-    branches: u8,
-    sort: &'a [u8; 32],
-    owner: &'a [u8; 128],
-    target: &'a [u8; 128],
-    fields: &'a [u8; 128],
-    label: &'a [u64; 128],
-    kind: &'a [u8; 512],
-    low: &'a [u32; 512],
-    high: &'a [u32; 512],
-) -> bool
-    ensures { λ r. ⌜ r ≡ soundOf (columns states branches (now (sort .entry)) (now (owner .entry)) (now (target .entry)) (now (fields .entry)) (now (label .entry)) (now (kind .entry)) (now (low .entry)) (now (high .entry))) ⌝ }
-{
-    let m = states as usize;
-    let n = branches as usize;
+    let m = t[STATES];
+    let b = t[BRANCHES];
     if m == 0 {
         return false;
     }
     if 32 < m {
         return false;
     }
-    if 128 < n {
+    if 128 < b {
         return false;
     }
-    let c = choices(sort, m);
+    let n = b as usize;
+    let c = choices(t, m as usize);
     if !c.ok {
         return false;
     }
-    let o = places(owner, target, fields, n, states);
+    let o = places(t, n, m);
     if !o.ok {
         return false;
     }
     if o.set != c.set {
         return false;
     }
-    if !labels_legal(label, n) {
+    if !labels_legal(t, n) {
         return false;
     }
-    if !ranges_legal(fields, kind, low, high, n) {
+    if !ranges_legal(t, n) {
         return false;
     }
-    distinct(owner, label, n)
+    distinct(t, n)
+}
+
+// Question 9 where a position is given: is it one of the table's states, too?
+pub fn sound_at(t: &Table, position: u32) -> bool
+    ensures { λ r. ⌜ r ≡ soundAt (now (t .entry)) position ⌝ }
+{
+    if !sound(t) {
+        return false;
+    }
+    position < t[STATES]
 }
 
 // Whether a pass found all right, and the set that it made.
@@ -107,14 +88,14 @@ struct Scan {
 }
 
 // Whether the first n sorts are known, and the set of the states that are no ends.
-fn choices(sort: &[u8; 32], n: usize) -> Scan
+fn choices(t: &Table, n: usize) -> Scan
     requires { ⌜ n ≤ 32 ⌝ }
-    ensures { λ r. ⌜ (r .ok ≡ all n (λ k. leb (getD (now (sort .entry)) k 0) 2)) × (r .ok ≡ true → Choices (now (sort .entry)) n (r .set)) ⌝ }
+    ensures { λ r. ⌜ (r .ok ≡ all n (λ k. leb (sortAt (now (t .entry)) k) 2)) × (r .ok ≡ true → Choices (now (t .entry)) n (r .set)) ⌝ }
 {
     let mut set: u32 = 0;
     let mut k: usize = 0;
     while k < n {
-        let s = sort[k];
+        let s = t[SORT + k];
         if 2 < s {
             return Scan { ok: false, set: 0 };
         }
@@ -128,50 +109,59 @@ fn choices(sort: &[u8; 32], n: usize) -> Scan
 }
 
 // Whether owners and targets are below m and no branch has more than four fields, and the set of the owners.
-fn places<'a>(
-    owner: &'a [u8; 128],
-    target: &'a [u8; 128],
-    fields: &'a [u8; 128],
-    n: usize,
-    m: u8,
-) -> Scan
+fn places(t: &Table, n: usize, m: u32) -> Scan
     requires { ⌜ (n ≤ 128) × (m ≤ 32) ⌝ }
-    ensures { λ r. ⌜ (r .ok ≡ all n (placed (now (owner .entry)) (now (target .entry)) (now (fields .entry)) m)) × (r .ok ≡ true → Members (now (owner .entry)) n (r .set)) ⌝ }
+    ensures { λ r. ⌜ (r .ok ≡ all n (placed (now (t .entry)) m)) × (r .ok ≡ true → Members (now (t .entry)) n (r .set)) ⌝ }
 {
     let mut set: u32 = 0;
     let mut k: usize = 0;
     while k < n {
-        let o = owner[k];
+        let o = t[OWNER + k];
         if m <= o {
             return Scan { ok: false, set: 0 };
         }
-        if m <= target[k] {
+        if m <= t[TARGET + k] {
             return Scan { ok: false, set: 0 };
         }
-        if 4 < fields[k] {
+        if 4 < t[FIELDS + k] {
             return Scan { ok: false, set: 0 };
         }
-        set = bits::with(set, o as u32);
+        set = bits::with(set, o);
         k += 1;
     }
     Scan { ok: true, set }
 }
 
 // Whether the first n labels are legal.
-fn labels_legal(label: &[u64; 128], n: usize) -> bool
+fn labels_legal(t: &Table, n: usize) -> bool
     requires { ⌜ n ≤ 128 ⌝ }
-    ensures { λ r. ⌜ (r ≡ all n (λ k. legal-label (labelOf (getD (now (label .entry)) k 0)))) × ((k : ℕ) → k < n → Word (getD (now (label .entry)) k 0)) ⌝ }
+    ensures { λ r. ⌜ (r ≡ all n (λ k. legal-label (labelOf (wordAt (now (t .entry)) k)))) × ((k : ℕ) → k < n → Word (wordAt (now (t .entry)) k)) ⌝ }
 {
     let mut ok = true;
     let mut k: usize = 0;
     while k < n {
-        let good = label_legal(label[k]);
+        let good = label_legal(label(t, k));
         k += 1;
         if !good {
             ok = false;
         }
     }
     ok
+}
+
+// The label of branch k.
+pub fn label(t: &Table, k: usize) -> u64
+    requires { ⌜ k < 128 ⌝ }
+    ensures { λ r. ⌜ r ≡ wordAt (now (t .entry)) k ⌝ }
+{
+    label_word(t[LABEL_HIGH + k], t[LABEL_LOW + k])
+}
+
+// A label's two words as one.
+pub fn label_word(high: u32, low: u32) -> u64
+    ensures { λ r. ⌜ r ≡ labelWord high low ⌝ }
+{
+    high as u64 * 4294967296 + low as u64
 }
 
 // All eight bytes at once: adding 128 - c to a byte below 128 sets its high bit exactly where the byte is at least c.
@@ -194,19 +184,13 @@ pub fn label_legal(w: u64) -> bool
 }
 
 // Whether the ranges of the first n branches' fields are legal.
-fn ranges_legal<'a>(
-    fields: &'a [u8; 128],
-    kind: &'a [u8; 512],
-    low: &'a [u32; 512],
-    high: &'a [u32; 512],
-    n: usize,
-) -> bool
-    requires { ⌜ (n ≤ 128) × ((k : ℕ) → k < n → getD (now fields) k 0 ≤ 4) ⌝ }
-    ensures { λ r. ⌜ r ≡ all n (λ k. all (getD (now (fields .entry)) k 0) (λ f. legalAt (now (kind .entry)) (now (low .entry)) (now (high .entry)) (4 * k + f))) ⌝ }
+fn ranges_legal(t: &Table, n: usize) -> bool
+    requires { ⌜ (n ≤ 128) × ((k : ℕ) → k < n → countAt (now t) k ≤ 4) ⌝ }
+    ensures { λ r. ⌜ r ≡ all n (λ k. all (countAt (now (t .entry)) k) (λ f. legalAt (now (t .entry)) (4 * k + f))) ⌝ }
 {
     let mut k: usize = 0;
     while k < n {
-        if !branch_legal(kind, low, high, 4 * k, fields[k]) {
+        if !branch_legal(t, 4 * k, t[FIELDS + k]) {
             return false;
         }
         k += 1;
@@ -215,20 +199,14 @@ fn ranges_legal<'a>(
 }
 
 // The same of one branch, whose fields are from place `at` on.
-fn branch_legal<'a>(
-    kind: &'a [u8; 512],
-    low: &'a [u32; 512],
-    high: &'a [u32; 512],
-    at: usize,
-    count: u8,
-) -> bool
+fn branch_legal(t: &Table, at: usize, count: u32) -> bool
     requires { ⌜ (at ≤ 508) × (count ≤ 4) ⌝ }
-    ensures { λ r. ⌜ r ≡ all count (λ f. legalAt (now (kind .entry)) (now (low .entry)) (now (high .entry)) (at + f)) ⌝ }
+    ensures { λ r. ⌜ r ≡ all count (λ f. legalAt (now (t .entry)) (at + f)) ⌝ }
 {
-    let mut f: u8 = 0;
+    let mut f: u32 = 0;
     while f < count {
         let k = at + f as usize;
-        if !range_legal(kind[k], low[k], high[k]) {
+        if !range_legal(t[KIND + k], t[LOW + k], t[HIGH + k]) {
             return false;
         }
         f += 1;
@@ -237,7 +215,7 @@ fn branch_legal<'a>(
 }
 
 // A range is not empty and keeps to its kind.
-pub fn range_legal(kind: u8, low: u32, high: u32) -> bool
+pub fn range_legal(kind: u32, low: u32, high: u32) -> bool
     ensures { λ r. ⌜ r ≡ legal-field (record { kind = kind; low = low; high = high }) ⌝ }
 {
     if high < low {
@@ -260,23 +238,23 @@ pub fn range_legal(kind: u8, low: u32, high: u32) -> bool
 
 // Whether the first n branches differ in owner or label: each is compared with those before it, of many branches only
 // with a filter's leave, so that the pass is not quadratic.
-fn distinct<'a>(owner: &'a [u8; 128], label: &'a [u64; 128], n: usize) -> bool
+fn distinct(t: &Table, n: usize) -> bool
     requires { ⌜ n ≤ 128 ⌝ }
-    ensures { λ r. ⌜ r ≡ all n (alone (now (owner .entry)) (now (label .entry))) ⌝ }
+    ensures { λ r. ⌜ r ≡ all n (alone (now (t .entry))) ⌝ }
 {
     if n <= 8 {
-        return distinct_few(owner, label, n);
+        return distinct_few(t, n);
     }
-    distinct_many(owner, label, n)
+    distinct_many(t, n)
 }
 
-fn distinct_few<'a>(owner: &'a [u8; 128], label: &'a [u64; 128], n: usize) -> bool
+fn distinct_few(t: &Table, n: usize) -> bool
     requires { ⌜ n ≤ 128 ⌝ }
-    ensures { λ r. ⌜ r ≡ all n (alone (now (owner .entry)) (now (label .entry))) ⌝ }
+    ensures { λ r. ⌜ r ≡ all n (alone (now (t .entry))) ⌝ }
 {
     let mut k: usize = 0;
     while k < n {
-        if !is_alone(owner, label, k) {
+        if !is_alone(t, k) {
             return false;
         }
         k += 1;
@@ -285,14 +263,14 @@ fn distinct_few<'a>(owner: &'a [u8; 128], label: &'a [u64; 128], n: usize) -> bo
 }
 
 // The filter is a set of 4,096 marks: a branch whose mark is not yet in it has no twin before it.
-fn distinct_many<'a>(owner: &'a [u8; 128], label: &'a [u64; 128], n: usize) -> bool
+fn distinct_many(t: &Table, n: usize) -> bool
     requires { ⌜ n ≤ 128 ⌝ }
-    ensures { λ r. ⌜ r ≡ all n (alone (now (owner .entry)) (now (label .entry))) ⌝ }
+    ensures { λ r. ⌜ r ≡ all n (alone (now (t .entry))) ⌝ }
 {
     let mut seen = [0u32; 128];
     let mut k: usize = 0;
     while k < n {
-        let m = mark(owner[k], label[k]);
+        let m = mark(t[OWNER + k], label(t, k));
         let row = m / 32;
         let s = seen[row];
         let j = (m % 32) as u32;
@@ -300,7 +278,7 @@ fn distinct_many<'a>(owner: &'a [u8; 128], label: &'a [u64; 128], n: usize) -> b
         let i = k;
         k += 1;
         if bits::has(s, j) {
-            if !is_alone(owner, label, i) {
+            if !is_alone(t, i) {
                 return false;
             }
         }
@@ -309,26 +287,26 @@ fn distinct_many<'a>(owner: &'a [u8; 128], label: &'a [u64; 128], n: usize) -> b
 }
 
 // A number below 4,096 that owner and label decide.
-fn mark(owner: u8, label: u64) -> usize
+fn mark(owner: u32, label: u64) -> usize
     ensures { λ r. ⌜ (r ≡ markOf owner label) × (r < 4096) ⌝ }
 {
-    let folded = label / 4294967296 + label % 4294967296 + (owner as u64) * 65537;
+    let folded = label / 4294967296 + label % 4294967296 + (owner % 256) as u64 * 65537;
     (folded * 1327217885 / 16777216 % 4096) as usize
 }
 
 // Whether branch i has no twin before it.
-fn is_alone<'a>(owner: &'a [u8; 128], label: &'a [u64; 128], i: usize) -> bool
+fn is_alone(t: &Table, i: usize) -> bool
     requires { ⌜ i < 128 ⌝ }
-    ensures { λ r. ⌜ r ≡ alone (now (owner .entry)) (now (label .entry)) i ⌝ }
+    ensures { λ r. ⌜ r ≡ alone (now (t .entry)) i ⌝ }
 {
-    let o = owner[i];
-    let l = label[i];
+    let o = t[OWNER + i];
+    let l = label(t, i);
     let mut k: usize = 0;
     while k < i {
         let j = k;
         k += 1;
-        if label[j] == l {
-            if owner[j] == o {
+        if label(t, j) == l {
+            if t[OWNER + j] == o {
                 return false;
             }
         }
@@ -336,16 +314,16 @@ fn is_alone<'a>(owner: &'a [u8; 128], label: &'a [u64; 128], i: usize) -> bool
     true
 }
 
-// What the dual is given with: 9 and the empty table where the table is not sound, else 0.
+// What the dual is given with: 0, or 9 and the empty table where the table is not sound.
 #[repr(C)]
 pub struct Turned {
-    pub question: u8,
+    pub question: u32,
     pub table: Table,
 }
 
 // The dual exchanges sending and receiving.
-pub fn dual(t: Table) -> Turned
-    ensures { λ r. ⌜ r ≡ dualOf t ⌝ }
+pub fn dual(t: &Table) -> Turned
+    ensures { λ r. ⌜ r ≡ dualOf (now (t .entry)) ⌝ }
 {
     if !sound(t) {
         return Turned {
@@ -353,50 +331,28 @@ pub fn dual(t: Table) -> Turned
             table: empty(),
         };
     }
-    let s = t.sort;
-    let r = opposite(s);
-    let mut d = t;
-    d.sort = r;
+    let mut d = *t;
+    turn(&mut d);
     Turned {
         question: 0,
         table: d,
     }
 }
 
-// The table that a refusal gives back.
-pub fn empty() -> Table
-    ensures { λ r. ⌜ r ≡ emptyTable ⌝ }
-{
-    Table {
-        states: 0,
-        branches: 0,
-        sort: [0; 32],
-        owner: [0; 128],
-        target: [0; 128],
-        fields: [0; 128],
-        label: [0; 128],
-        kind: [0; 512],
-        low: [0; 512],
-        high: [0; 512],
-    }
-}
-
 // Each sort's opposite: 1 and 2 are exchanged.
-fn opposite(sort: [u8; 32]) -> [u8; 32]
-    ensures { λ r. ⌜ r ≡ map oppositeOf sort ⌝ }
+fn turn(t: &mut Table)
+    ensures { λ _. ⌜ now (t .exit) ≡ turned (now (t .entry)) ⌝ }
 {
-    let mut out = sort;
     let mut k: usize = 0;
     while k < 32 {
-        let s = out[k];
+        let s = t[SORT + k];
         let r = opposite_sort(s);
-        out[k] = r;
+        t[SORT + k] = r;
         k += 1;
     }
-    out
 }
 
-fn opposite_sort(s: u8) -> u8
+fn opposite_sort(s: u32) -> u32
     ensures { λ r. ⌜ r ≡ oppositeOf s ⌝ }
 {
     if s == 1 {
@@ -406,4 +362,11 @@ fn opposite_sort(s: u8) -> u8
         return 1;
     }
     s
+}
+
+// The table that a refusal gives back.
+pub fn empty() -> Table
+    ensures { λ r. ⌜ r ≡ emptyTable ⌝ }
+{
+    [0; 2340]
 }
