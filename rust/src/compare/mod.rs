@@ -1,8 +1,9 @@
 //! Random comparisons of the proved code with the second implementation.
 //!
-//! A comparison is one call put through both, with everything that comes of it: answer, state, every byte of a lent buffer. What
-//! is compared follows from seed, kind and case number alone, so that a disagreement can be shown again by its three names. Where
-//! document 01 leaves the answer free, the moves of a failing fit, they are played on the document's machine instead.
+//! A comparison is one call put through both, with everything that comes of it: answer, state, every byte of a lent buffer; of the
+//! proved code both what the wrapper says and each number of what the library gives back. What is compared follows from seed,
+//! kind and case number alone, so that a disagreement can be shown again by its three names. Where document 01 leaves the answer
+//! free, the moves of a failing fit, they are played on the document's machine instead.
 
 mod both;
 mod conversations;
