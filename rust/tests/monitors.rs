@@ -58,6 +58,7 @@ fn the_plain_monitor() {
             let damaged = damaged_table(&mut random, &columns, column);
             assert_eq!(plain::sound(&Table::from(&damaged)), damaged.sound(), "seed {seed}, column {column}");
         }
+        assert!(!plain::sound(&Table::from(&any_raw(&mut random))), "seed {seed}");
     }
 }
 

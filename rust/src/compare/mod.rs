@@ -35,13 +35,13 @@ pub struct Kind {
 /// Every kind of comparison.
 pub const KINDS: [Kind; 9] = [
     Kind { name: "texts", cases: 100_000, run: texts::case },
-    Kind { name: "tables", cases: 1_500, run: tables::case },
-    Kind { name: "messages", cases: 8_000, run: messages::case },
-    Kind { name: "steps", cases: 30_000, run: steps::case },
+    Kind { name: "tables", cases: 1_600, run: tables::case },
+    Kind { name: "messages", cases: 12_000, run: messages::case },
+    Kind { name: "steps", cases: 40_000, run: steps::case },
     Kind { name: "conversations", cases: 20, run: conversations::case },
-    Kind { name: "small-fits", cases: 20_000, run: fits::small },
+    Kind { name: "small-fits", cases: 21_000, run: fits::small },
     Kind { name: "large-fits", cases: 4_000, run: fits::large },
-    Kind { name: "long-fits", cases: 2_000, run: fits::long },
+    Kind { name: "long-fits", cases: 2_200, run: fits::long },
     Kind { name: "reports", cases: 6_000, run: reports::case },
 ];
 
