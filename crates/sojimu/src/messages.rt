@@ -1,6 +1,6 @@
 // Messages: their questions, their parts where they stand, and the message made from a branch.
 ghost use mathlib.Core.Path.{_≡_};
-ghost use Rattle.message.specs.Message.{number-at, label-word, has-label, frontOf, refusal};
+ghost use Rattle.message.specs.Message.{number-at, label-word, has-label, frontOf, broken, refusal};
 ghost use Rattle.message.specs.Make.{highOf, told, making};
 ghost use Rattle.sojimu.specs.Codes.{headCodes, namedBy, madeCodes};
 ghost use Rattle.sojimu.specs.Inner.{SameBranch, SameField};
@@ -31,6 +31,14 @@ pub extern "C" fn sojimu_raw_front(bytes: &[u8]) -> Head
         question: head.question as u32,
         length: head.length as u32,
     }
+}
+
+// Whether nothing that follows makes a message of these bytes.
+#[no_mangle]
+pub extern "C" fn sojimu_raw_broken(bytes: &[u8]) -> bool
+    ensures { λ r. ⌜ r ≡ broken (now (bytes .entry)) ⌝ }
+{
+    message::broken(bytes)
 }
 
 // 13, 14 and 15.

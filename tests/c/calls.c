@@ -1,92 +1,11 @@
 /* Calls the library through include/sojimu.h, as a gateway in C does: document 01's examples, every refusal that a call can give,
  * and every lent byte after it. Prints a line for each check that fails, and at the end `N passed, M failed`. */
-#include <stdio.h>
-#include <string.h>
-
-#include "sojimu.h"
-
-static unsigned passed, failed;
-
-#define CHECK(claim) check((claim), #claim, __LINE__)
-
-static void check(bool holds, const char *claim, int line)
-{
-    if (holds) {
-        passed++;
-    } else {
-        failed++;
-        printf("line %d: %s\n", line, claim);
-    }
-}
-
-/* ---- buffers that show what was written */
-
-enum { ROOM = 320, MARK = 0xA5 };
-
-static uint8_t out[ROOM];
-
-static void mark(void)
-{
-    memset(out, MARK, sizeof out);
-}
-
-/* Whether `out` begins with these bytes, and its rest still has its marks. */
-static bool opens(const uint8_t *bytes, size_t length)
-{
-    for (size_t i = 0; i < ROOM; i++) {
-        if (out[i] != (i < length ? bytes[i] : MARK)) {
-            return false;
-        }
-    }
-    return true;
-}
-
-static uint16_t list[SOJIMU_LIST];
-
-static void mark_list(void)
-{
-    memset(list, MARK, sizeof list);
-}
-
-/* Whether the list has its marks from a place on. */
-static bool marked_from(size_t place)
-{
-    for (size_t i = place; i < SOJIMU_LIST; i++) {
-        if (list[i] != MARK * 257) {
-            return false;
-        }
-    }
-    return true;
-}
+#include "check.h"
 
 /* ---- texts, tables, messages */
 
-static struct sojimu_reading read_text(const char *text)
-{
-    return sojimu_read((const uint8_t *)text, strlen(text));
-}
-
-static struct sojimu_table table_of(const char *text)
-{
-    const struct sojimu_reading r = read_text(text);
-    CHECK(r.question == 0 && r.at == 0);
-    CHECK(sojimu_sound(&r.table));
-    return r.table;
-}
-
-static bool same_tables(const struct sojimu_table *a, const struct sojimu_table *b)
-{
-    return a->states == b->states && a->branches == b->branches && memcmp(a->sort, b->sort, sizeof a->sort) == 0 &&
-           memcmp(a->owner, b->owner, sizeof a->owner) == 0 && memcmp(a->target, b->target, sizeof a->target) == 0 &&
-           memcmp(a->fields, b->fields, sizeof a->fields) == 0 && memcmp(a->label, b->label, sizeof a->label) == 0 &&
-           memcmp(a->kind, b->kind, sizeof a->kind) == 0 && memcmp(a->low, b->low, sizeof a->low) == 0 &&
-           memcmp(a->high, b->high, sizeof a->high) == 0;
-}
-
-static const struct sojimu_table empty;
-
 /* The text is refused: this question, this place, the empty table. */
-static bool refused_at(const char *text, uint8_t question, size_t at)
+static bool refused_at(const char *text, uint32_t question, uint32_t at)
 {
     const struct sojimu_reading r = read_text(text);
     return r.question == question && r.at == at && same_tables(&r.table, &empty);
@@ -117,10 +36,6 @@ static size_t with_number(uint8_t *bytes, const char *label, uint8_t kind, int32
     put_number(bytes + 10, value);
     return 14;
 }
-
-static const char P[] = "rec X.+{!Ask(int[0..100]).&{?Ok().X},!Quit().end}";
-
-static const uint8_t ASK_100[] = {0x41, 0x73, 0x6B, 0, 0, 0, 0, 0, 1, 0, 0, 0, 0, 0x64};
 
 /* ---- texts and tables */
 
@@ -156,22 +71,22 @@ static void tables(void)
     CHECK(p.owner[0] == 0 && p.owner[1] == 1 && p.owner[2] == 0);
     CHECK(p.target[0] == 1 && p.target[1] == 0 && p.target[2] == 2);
     CHECK(p.fields[0] == 1 && p.fields[1] == 0 && p.fields[2] == 0);
-    CHECK(p.label[0] == ask);
+    CHECK(p.label_high[0] == UINT32_C(0x41736B00) && p.label_low[0] == 0);
     CHECK(p.kind[0] == SOJIMU_KIND_INT && p.low[0] == SOJIMU_ORIGIN && p.high[0] == SOJIMU_ORIGIN + 100);
 
-    const struct sojimu_turned d = sojimu_dual(p);
+    const struct sojimu_turned d = sojimu_dual(&p);
     CHECK(d.question == 0 && d.table.sort[0] == SOJIMU_RECEIVES && d.table.sort[1] == SOJIMU_SENDS);
-    const struct sojimu_turned dd = sojimu_dual(d.table);
+    const struct sojimu_turned dd = sojimu_dual(&d.table);
     CHECK(dd.question == 0 && same_tables(&dd.table, &p));
 
     CHECK(!sojimu_sound(&empty));
     const struct sojimu_table none = sojimu_empty();
     CHECK(same_tables(&none, &empty));
-    CHECK(sojimu_sound_at(p, 0) && sojimu_sound_at(p, 2) && !sojimu_sound_at(p, 3) && !sojimu_sound_at(empty, 0));
+    CHECK(sojimu_sound_at(&p, 0) && sojimu_sound_at(&p, 2) && !sojimu_sound_at(&p, 3) && !sojimu_sound_at(&empty, 0));
     p.target[2] = 3;
-    CHECK(!sojimu_sound_at(p, 0));
+    CHECK(!sojimu_sound_at(&p, 0));
     CHECK(!sojimu_sound(&p));
-    const struct sojimu_turned no = sojimu_dual(p);
+    const struct sojimu_turned no = sojimu_dual(&p);
     CHECK(no.question == 9 && same_tables(&no.table, &empty));
 
     CHECK(sojimu_label_legal(ask) && !sojimu_label_legal(0) && !sojimu_label_legal(ask >> 8));
@@ -211,7 +126,7 @@ static void questions(void)
     CHECK(sojimu_refusal(m, 14) == 13);
 }
 
-static bool unmade(struct sojimu_made made, uint8_t question)
+static bool unmade(struct sojimu_made made, uint32_t question)
 {
     return made.question == question && made.length == 0 && opens(NULL, 0);
 }
@@ -253,7 +168,7 @@ static void making(void)
 
 /* One step, and whether the verdict has these five codes, the state these two bytes, and `out` begins with `length` bytes of the
  * message (0: all of it is unchanged). */
-static bool steps_to(const struct sojimu_table *t, struct sojimu_state *s, uint8_t side, const uint8_t *message, size_t n,
+static bool steps_to(const struct sojimu_table *t, struct sojimu_state *s, uint32_t side, const uint8_t *message, size_t n,
                      size_t room, const uint8_t verdict[5], uint8_t position, uint8_t standing)
 {
     mark();
@@ -264,7 +179,7 @@ static bool steps_to(const struct sojimu_table *t, struct sojimu_state *s, uint8
 }
 
 /* A step that is refused by this question, and changes neither state nor output. */
-static bool refuses(const struct sojimu_table *t, struct sojimu_state s, uint8_t side, const uint8_t *message, size_t n,
+static bool refuses(const struct sojimu_table *t, struct sojimu_state s, uint32_t side, const uint8_t *message, size_t n,
                     size_t room, uint8_t question)
 {
     const uint8_t verdict[5] = {SOJIMU_REFUSED, question, 0, 0, 0};
@@ -337,10 +252,10 @@ static void refusals(void)
     CHECK(refuses(&p, ended, SOJIMU_HOST, m, n, ROOM, 11));
     CHECK(refuses(&p, ended, 255, m, n, ROOM, 11));
     CHECK(refuses(&p, start, SOJIMU_HOST, m, n, ROOM, 12));
-    for (unsigned side = 2; side < 256; side++) {
+    for (uint32_t side = 2; side < 300; side++) {
         const struct sojimu_state receiving = {1, SOJIMU_RUNNING};
-        CHECK(refuses(&p, start, (uint8_t)side, m, n, ROOM, 12));
-        CHECK(refuses(&p, receiving, (uint8_t)side, m, n, ROOM, 12));
+        CHECK(refuses(&p, start, side, m, n, ROOM, 12));
+        CHECK(refuses(&p, receiving, side, m, n, ROOM, 12));
     }
     CHECK(refuses(&p, start, SOJIMU_HOST, NULL, 0, 0, 12));
     CHECK(refuses(&p, start, SOJIMU_DEVICE, NULL, 0, 0, 13));
@@ -373,7 +288,7 @@ static void conversation(void)
     CHECK(refuses(&p, s, SOJIMU_DEVICE, quit, sizeof quit, ROOM, 11));
 }
 
-static bool due_is(struct sojimu_due d, uint8_t side, size_t length)
+static bool due_is(struct sojimu_due d, uint32_t side, size_t length)
 {
     return d.side == side && d.length == length;
 }
@@ -409,7 +324,7 @@ static void due(void)
 
 /* ---- the fit check */
 
-static bool fit_is(struct sojimu_fit f, uint8_t outcome, uint8_t question, uint16_t count, uint8_t high)
+static bool fit_is(struct sojimu_fit f, uint32_t outcome, uint32_t question, uint32_t count, uint32_t high)
 {
     return f.outcome == outcome && f.question == question && f.count == count && f.high == high;
 }
@@ -420,9 +335,9 @@ static struct sojimu_verdict play(const struct sojimu_table *device, const struc
     struct sojimu_state s = sojimu_fresh();
     struct sojimu_verdict v = {SOJIMU_FORWARDED, 0, 0, 0, 0};
     uint8_t m[SOJIMU_MESSAGE];
-    for (uint16_t i = 0; i < f.count; i++) {
+    for (uint32_t i = 0; i < f.count; i++) {
         const uint8_t side = sojimu_turn(protocol, s);
-        const uint8_t named = i + 1 == f.count ? f.high : (uint8_t)SOJIMU_ALL_LOW;
+        const uint32_t named = i + 1 == f.count ? f.high : SOJIMU_ALL_LOW;
         const struct sojimu_made made = sojimu_make(side == SOJIMU_DEVICE ? device : protocol, list[i], named, m, sizeof m);
         CHECK(v.outcome == SOJIMU_FORWARDED && made.question == 0);
         v = sojimu_step(protocol, &s, side, m, made.length, out, ROOM);
@@ -502,6 +417,5 @@ int main(void)
     due();
     fits();
     failures();
-    printf("%u passed, %u failed\n", passed, failed);
-    return failed == 0 ? 0 : 1;
+    return counts();
 }
