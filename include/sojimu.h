@@ -114,9 +114,9 @@ enum { SOJIMU_ALL_LOW = 255 };
 /* ---- what calls take and give */
 
 /* A table: the first `states` sorts, and the first `branches` entries of owner (the state that a branch is of), target (the state
- * that it leads to), fields (their count) and the label's two words (its eight bytes, filled up with 0x00, high byte first). Field
- * f of branch b stands at 4 * b + f: its kind, and the range of its number in offset form. What lies beyond is not looked at, and
- * `reserved` never is; both are 0 in a table that was read. Any word may have any value: question 9 tells a table. */
+ * that it leads to), fields (their count) and the label's two words (its eight bytes, filled up with 0x00, high byte first).
+ * Field f of branch b stands at 4 * b + f: its kind, and the range of its number in offset form. What lies beyond is not looked
+ * at, and `reserved` never is; both are 0 in a table that was read. Any word may have any value: question 9 tells a table. */
 struct sojimu_table {
     uint32_t states, branches;
     uint32_t sort[32];
@@ -166,9 +166,9 @@ struct sojimu_made {
     uint32_t question, length;
 };
 
-/* A fit check's answer. fits: `count` is the number of reachable pairs of states. fails: `count` is the number of moves shown, and
- * `high` the field that is high in the last, or SOJIMU_ALL_LOW. refused: `question` is 9 or 17. What does not apply is 0, of `high`
- * SOJIMU_ALL_LOW. */
+/* A fit check's answer. fits: `count` is the number of reachable pairs of states. fails: `count` is the number of moves shown,
+ * and `high` the field that is high in the last, or SOJIMU_ALL_LOW. refused: `question` is 9 or 17. What does not apply is 0, of
+ * `high` SOJIMU_ALL_LOW. */
 struct sojimu_fit {
     uint32_t outcome, question, count, high;
 };
@@ -350,9 +350,9 @@ static inline struct sojimu_field sojimu_int(int32_t value)
 }
 
 /* More than 64 bytes are too many, however many they are. */
-static inline struct sojimu_field sojimu_text(const uint8_t *bytes, size_t length)
+static inline struct sojimu_field sojimu_text(const void *bytes, size_t length)
 {
-    const struct sojimu_field field = {SOJIMU_KIND_TEXT, (uint32_t)(length < 65 ? length : 65), bytes};
+    const struct sojimu_field field = {SOJIMU_KIND_TEXT, (uint32_t)(length < 65 ? length : 65), (const uint8_t *)bytes};
     return field;
 }
 
@@ -407,10 +407,10 @@ struct sojimu_state sojimu_fresh(void);
 /* Whose turn it is: SOJIMU_DEVICE, SOJIMU_HOST, or SOJIMU_NOBODY when 9, 10 or 11 would refuse. */
 uint8_t sojimu_turn(const struct sojimu_table *table, struct sojimu_state state);
 
-/* One step. `side` says who sends the message; any number but SOJIMU_DEVICE and SOJIMU_HOST is no side's turn. Asks 9, 10, 11, 12,
- * 13, 14, 15, 16; on a refusal state and `out` are unchanged. Else the message is judged against the position's branches. If one
- * allows it, it is forwarded: its bytes open `out`, the rest of which is unchanged, and the position moves on. If none does, the
- * sender is blamed, for ever: the standing says so, and position and `out` are unchanged. */
+/* One step. `side` says who sends the message; any number but SOJIMU_DEVICE and SOJIMU_HOST is no side's turn. Asks 9, 10, 11,
+ * 12, 13, 14, 15, 16; on a refusal state and `out` are unchanged. Else the message is judged against the position's branches. If
+ * one allows it, it is forwarded: its bytes open `out`, the rest of which is unchanged, and the position moves on. If none does,
+ * the sender is blamed, for ever: the standing says so, and position and `out` are unchanged. */
 static inline struct sojimu_verdict sojimu_step(const struct sojimu_table *table, struct sojimu_state *state, uint32_t side,
                                                 const uint8_t *message, size_t length, uint8_t *out, size_t room)
 {
@@ -423,9 +423,9 @@ static inline struct sojimu_verdict sojimu_step(const struct sojimu_table *table
 #pragma GCC diagnostic ignored "-Wshadow"
 #endif
 
-/* The due message, from the bytes that wait on either side: the first message of the side whose turn it is. Length 0 when 13 or 14
- * would refuse or the message is not all there; side SOJIMU_DEVICE and length 0 when 9, 10 or 11 would. This call alone carries no
- * number. */
+/* The due message, from the bytes that wait on either side: the first message of the side whose turn it is. Length 0 when 13 or
+ * 14 would refuse or the message is not all there; side SOJIMU_DEVICE and length 0 when 9, 10 or 11 would. This call alone
+ * carries no number. */
 static inline struct sojimu_due sojimu_due(const struct sojimu_table *table, struct sojimu_state state, const uint8_t *device,
                                            size_t device_length, const uint8_t *host, size_t host_length)
 {
@@ -433,10 +433,11 @@ static inline struct sojimu_due sojimu_due(const struct sojimu_table *table, str
                           host_length);
 }
 
-/* Whether a described device fits a protocol: no list of moves ends with the device blamed or the two stuck. Asks 9 of the device,
- * 9 of the protocol, 17 of the list (1,024 entries are always enough). Where it fails, the list begins with the fewest moves that
- * show it, each the speaker's branch number (the device's table for the device, the protocol's for the host), every number low, in
- * the last move one field perhaps high; the rest of the list is unchanged. Where it fits or is refused, the whole list is. */
+/* Whether a described device fits a protocol: no list of moves ends with the device blamed or the two stuck. Asks 9 of the
+ * device, 9 of the protocol, 17 of the list (1,024 entries are always enough). Where it fails, the list begins with the fewest
+ * moves that show it, each the speaker's branch number (the device's table for the device, the protocol's for the host), every
+ * number low, in the last move one field perhaps high; the rest of the list is unchanged. Where it fits or is refused, the whole
+ * list is. */
 static inline struct sojimu_fit sojimu_fit(const struct sojimu_table *device, const struct sojimu_table *protocol, uint16_t *list,
                                            size_t room)
 {

@@ -96,7 +96,8 @@ static inline size_t largest_text(char *text)
 {
     size_t n = (size_t)sprintf(text, "rec X.+{");
     for (int i = 0; i < 31; i++) {
-        n += (size_t)sprintf(text + n, "%s!A%d(text[0..64],int[-2147483648..2147483647],flag[0..1],text[1..64]).&{", i ? "," : "", i);
+        n += (size_t)sprintf(text + n, "%s!A%d(text[0..64],int[-2147483648..2147483647],flag[0..1],text[1..64]).&{",
+                             i ? "," : "", i);
         for (int j = 0; j < (i < 4 ? 4 : 3); j++) {
             n += (size_t)sprintf(text + n, "%s?B%d(text[0..9]).X", j ? "," : "", j);
         }

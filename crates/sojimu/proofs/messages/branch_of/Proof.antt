@@ -6,7 +6,7 @@ use Rattle.sojimu.proofs.messages.branch_of.Statement.{statement}
 use Rattle.sojimu.proofs.messages.branch_of.Tie as tie
 
 returns-2 : tie.Need-returns-2
-returns-2 c = same-branch 65535 (c .before .args .branch) (omega arith) (omega arith)
+returns-2 c = same-branch _ _ (omega arith) (omega arith)
 
 pub branch-of-spec : {M : Type 1} → statement M
 branch-of-spec = tie.close (tie.spec (λ c. search needs) (λ c. search needs) returns-2)

@@ -18,7 +18,7 @@ returns-2 c = rw (ne-eqb (c .before .before .args .named) 255 (c .before .if1 .l
 
 returns-3 : tie.Need-returns-3
 unfolding highOf
-returns-3 c = rw (ne-eqb (c .before .before .args .named) 255 (c .before .if1 .left)) (same-field 254 (c .before .before .args .named) (omega arith) (omega arith))
+returns-3 c = rw (ne-eqb (c .before .before .args .named) 255 (c .before .if1 .left)) (same-field _ _ (omega arith) (omega arith))
 
 pub high-of-spec : {M : Type 1} → statement M
 high-of-spec = tie.close (tie.spec returns (λ c. search needs) returns-2 returns-3)
