@@ -1,6 +1,6 @@
 -- A message has at most four fields, each of at most 64 bytes of text: no length that is announced is above 285.
 -- Assumes nothing.
-use mathlib.Core.Path.{_≡_, refl, ap}
+use mathlib.Core.Path.{_≡_, refl}
 use mathlib.Core.Bool.{Bool, true, false, _&&_, cond}
 use mathlib.Core.List.{List, [], _∷_}
 use Prim.Native.Nat.{ℕ, _-_, _*_, _≤_, zero-le}
@@ -11,7 +11,7 @@ use borrow.Author.Tests.{eqb-true}
 use Rattle.table.specs.Lists.{every}
 use Rattle.table.specs.Table.{origin}
 use Rattle.table.proofs.Lists.{both}
-use Rattle.message.specs.Message.{Value, text-bytes, announced, count-of, values-of, legal-value, legal-values, front, frontOf}
+use Rattle.message.specs.Message.{Value, text-bytes, announced, values-of, legal-value, legal-values, front, frontOf}
 use Rattle.message.proofs.Reading.{text-within, values-length, front-parts}
 use Rattle.monitor.specs.Due.{first-length}
 
