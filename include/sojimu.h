@@ -73,15 +73,15 @@ enum {
     SOJIMU_REPORT = 16384
 };
 
-/* The stack in bytes that a call needs at most, beside the struct that it gives back, which is its caller's, and what memcpy and
- * memset need: sojimu_read; sojimu_report; sojimu_dual; sojimu_fit; the other calls that take a table; all others. */
+/* The stack in bytes that a call of the library needs at most, beside the place for a struct that it gives back, which is its
+ * caller's, and what memcpy and memset need. */
 enum {
     SOJIMU_STACK_READ = 49152,
     SOJIMU_STACK_REPORT = 81920,
     SOJIMU_STACK_DUAL = 12288,
     SOJIMU_STACK_FIT = 6144,
-    SOJIMU_STACK_TABLE = 1024,
-    SOJIMU_STACK_OTHER = 256
+    SOJIMU_STACK_TABLE = 1024, /* every other call that takes a table, a step among them */
+    SOJIMU_STACK_OTHER = 256   /* every other call */
 };
 
 /* A state's sort, in a table. */
