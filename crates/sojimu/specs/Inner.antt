@@ -1,4 +1,4 @@
--- What inner functions say to one another. It need not be believed: a law ties it to Calls.
+-- What inner functions say to one another. It need not be believed: laws tie it to Calls and to `making` (proofs/Sides, Wide).
 -- Assumes nothing.
 use mathlib.Core.Path.{_≡_}
 use mathlib.Core.List.{List}
