@@ -2,176 +2,141 @@
 // The command is one letter from g to z. Given and wanted are numbers in hexadecimal, with capital letters; `20*5` is the
 // number 0x20 five times, and a text in double quotes stands for its bytes. A line without a command is no case.
 ghost use Prim.Native.Nat.{_≤_, _<_};
-ghost use lib.ListN.{length};
 
-// What a line holds: numbers[..given] are given and numbers[given..total] wanted. `next` is where the line after it begins.
+// How far a line is read. Its numbers stand in an array of 512, and what is beyond is dropped: the first `given` of them are given,
+// and those from there up to `total` wanted.
 pub struct Line {
     pub command: u8,
     pub given: usize,
     pub total: usize,
-    pub next: usize,
+    // what is being read
+    mode: u8,
+    // the number that is being read, and the one that it repeats
+    value: u64,
+    repeated: u64,
 }
 
-// What is being read: numbers, a text, a comment.
+// Between words; in a number; in what says how often the number before `*` is repeated; in a text; in a comment.
 const PLAIN: u8 = 0;
 
-const TEXT: u8 = 1;
+const NUMBER: u8 = 1;
 
-const COMMENT: u8 = 2;
+const TIMES: u8 = 2;
 
-struct Scan {
-    mode: u8,
-    command: u8,
-    // a word's value, and whether one is being read
-    value: u64,
-    word: bool,
-    // the number that `*` repeats, and whether there is one
-    repeated: u64,
-    repeats: bool,
-    // how many numbers there are, and how many there were at `=`
-    total: usize,
-    given: usize,
-}
+const TEXT: u8 = 3;
 
-// Reads the line that begins at `start`. The array holds 9,216 numbers; what is beyond is dropped.
-pub fn parse(s: &[u8], start: usize, numbers: &mut [u64; 9216]) -> Line
-    requires { ⌜ start < length (now s) ⌝ }
-    ensures { λ r. ⌜ (start < r .next) × (r .next ≤ length (now (s .entry))) ⌝ }
-{
-    let mut c = begin();
-    let mut at = start;
-    while at < s.len() {
-        let b = s[at];
-        at += 1;
-        if b == b'\n' {
-            return end(c, at, numbers);
-        }
-        c = take(c, b, numbers);
-    }
-    end(c, at, numbers)
-}
+const COMMENT: u8 = 4;
 
-fn begin() -> Scan {
-    Scan {
-        mode: PLAIN,
-        command: 0,
-        value: 0,
-        word: false,
-        repeated: 0,
-        repeats: false,
-        total: 0,
-        given: 9216,
-    }
-}
-
-// The line is over: a word that reaches its end counts. Without a `=`, nothing is wanted.
-fn end(scan: Scan, next: usize, numbers: &mut [u64; 9216]) -> Line
-    ensures { λ r. ⌜ next ≤ r .next ⌝ }
-    ensures { λ r. ⌜ r .next ≤ next ⌝ }
-{
-    let c = word_over(scan, numbers);
-    let mut given = c.given;
-    if c.total < given {
-        given = c.total;
-    }
+pub fn begin() -> Line {
     Line {
-        command: c.command,
-        given,
-        total: c.total,
-        next,
+        command: 0,
+        given: 512,
+        total: 0,
+        mode: PLAIN,
+        value: 0,
+        repeated: 0,
     }
 }
 
 // One byte more.
-fn take(scan: Scan, b: u8, numbers: &mut [u64; 9216]) -> Scan {
-    if scan.mode == COMMENT {
-        return scan;
+pub fn take(line: Line, b: u8, numbers: &mut [u64; 512]) -> Line {
+    if line.mode == COMMENT {
+        return line;
     }
-    if scan.mode == TEXT {
-        return take_text(scan, b, numbers);
+    if line.mode == TEXT {
+        return take_text(line, b, numbers);
     }
     let d = digit(b);
     if d < 16 {
-        return take_digit(scan, d);
+        return take_digit(line, d);
     }
     if b == b'*' {
-        return take_star(scan);
+        return take_star(line);
     }
-    take_mark(word_over(scan, numbers), b)
+    take_mark(word_over(line, numbers), b)
 }
 
-fn take_text(scan: Scan, b: u8, numbers: &mut [u64; 9216]) -> Scan {
-    let mut c = scan;
+// The line is over. Without a `=`, nothing is wanted.
+pub fn end(line: Line, numbers: &mut [u64; 512]) -> Line
+    ensures { λ r. ⌜ (r .given ≤ r .total) × (r .total ≤ 512) ⌝ }
+{
+    let mut l = word_over(line, numbers);
+    l.total = lesser(l.total, 512);
+    l.given = lesser(l.given, l.total);
+    l
+}
+
+pub fn lesser(a: usize, b: usize) -> usize
+    ensures { λ r. ⌜ r ≤ b ⌝ }
+{
+    if a < b {
+        return a;
+    }
+    b
+}
+
+fn take_text(line: Line, b: u8, numbers: &mut [u64; 512]) -> Line {
+    let mut l = line;
     if b == b'"' {
-        c.mode = PLAIN;
-        return c;
+        l.mode = PLAIN;
+        return l;
     }
-    c.total = put(numbers, c.total, b as u64, 1);
-    c
+    l.total = put(numbers, l.total, b as u64, 1);
+    l
 }
 
-fn take_digit(scan: Scan, d: u8) -> Scan
+fn take_digit(line: Line, d: u8) -> Line
     requires { ⌜ d < 16 ⌝ }
 {
-    let mut c = scan;
-    c.value = c.value % 0x1000_0000_0000_0000 * 16 + d as u64;
-    c.word = true;
-    c
+    let mut l = line;
+    l.value = l.value % 0x1000_0000_0000_0000 * 16 + d as u64;
+    if l.mode == PLAIN {
+        l.mode = NUMBER;
+    }
+    l
 }
 
-// The word before it is a number to repeat.
-fn take_star(scan: Scan) -> Scan {
-    let mut c = scan;
-    c.repeated = c.value;
-    c.repeats = true;
-    c.value = 0;
-    c.word = false;
-    c
+fn take_star(line: Line) -> Line {
+    let mut l = line;
+    l.mode = TIMES;
+    l.repeated = l.value;
+    l.value = 0;
+    l
 }
 
-// Any other byte: the word before it is over.
-fn take_mark(scan: Scan, b: u8) -> Scan {
-    let mut c = scan;
-    if b == b'#' {
-        c.mode = COMMENT;
+fn take_mark(line: Line, b: u8) -> Line {
+    let mut l = line;
+    match b {
+        b'#' => l.mode = COMMENT,
+        b'"' => l.mode = TEXT,
+        b'=' => l.given = l.total,
+        b'g'..=b'z' => l.command = b,
+        _ => {}
     }
-    if b == b'"' {
-        c.mode = TEXT;
-    }
-    if b == b'=' {
-        c.given = c.total;
-    }
-    if b'g' <= b {
-        c.command = b;
-    }
-    c
+    l
 }
 
-// A word that is over is a number, or with `*` before it says how often a number is repeated.
-fn word_over(scan: Scan, numbers: &mut [u64; 9216]) -> Scan {
-    let mut c = scan;
-    if !c.word {
-        return c;
+// The word that is being read, if any is, is over.
+fn word_over(line: Line, numbers: &mut [u64; 512]) -> Line {
+    let mut l = line;
+    if l.mode == NUMBER {
+        l.total = put(numbers, l.total, l.value, 1);
     }
-    c.word = false;
-    let v = c.value;
-    c.value = 0;
-    if c.repeats {
-        c.repeats = false;
-        c.total = put(numbers, c.total, c.repeated, v);
-        return c;
+    if l.mode == TIMES {
+        l.total = put(numbers, l.total, l.repeated, l.value);
     }
-    c.total = put(numbers, c.total, v, 1);
-    c
+    l.mode = PLAIN;
+    l.value = 0;
+    l
 }
 
 // Puts a number at place n, and so on as often as is said, as far as there is room; the next free place.
-fn put(numbers: &mut [u64; 9216], n: usize, value: u64, times: u64) -> usize {
+fn put(numbers: &mut [u64; 512], n: usize, value: u64, times: u64) -> usize {
     let mut at = n;
     let mut left = times;
     while 0 < left {
-        if 9216 <= at {
-            return 9216;
+        if 512 <= at {
+            return 512;
         }
         numbers[at] = value;
         at += 1;

@@ -1,27 +1,21 @@
-// Puts files of cases through the calls, and compares what each gives with what the case wants. A case that goes wrong is
-// printed with its line's number and what was given back; the last line counts the cases.
-ghost use Prim.Native.Nat.{_+_, _≤_, _<_};
+// Puts the file `monitor` through `monitor::advance`, the step over a lent state, which no program in another language can call.
+// A case that goes wrong is printed with its line's number; the last line counts the cases.
+//   j edits = 9-or-0                        the table that later lines use: the empty table with these edits; is it sound?
+//   g = position standing                   a fresh conversation
+//   s position standing side room message = verdict position standing output      one step
+//   u side room message = verdict position standing output                        the next step of the conversation
+// The lines w, the due part, are left to the tests in Rust, which read this file and the others too.
+ghost use Prim.Native.Nat.{_≤_};
 ghost use lib.ListN.{length};
 ghost use Rattle.io.specs.Counts.{Counts};
 use libc::STDOUT_FILENO;
+use line::Line;
 use monitor::State;
+use step::Outcome;
 use table::Table;
 
-mod fits;
 mod line;
-mod messages;
-mod numbers;
-mod reports;
-mod steps;
-mod tables;
-mod texts;
-
-// How many lines there were, how many of them were cases, and how many of these went wrong.
-struct Tally {
-    lines: u64,
-    cases: u64,
-    wrong: u64,
-}
+mod step;
 
 fn load(name: &[u8], buf: &mut [u8]) -> usize
     ensures { λ r. ⌜ Counts r (now (buf .exit)) ⌝ }
@@ -35,150 +29,161 @@ fn load(name: &[u8], buf: &mut [u8]) -> usize
     n
 }
 
-// How many numbers the command's call puts into `got`; none for an unknown command. `base` is the table that lines edit, and
-// `talk` the state of the conversation that goes on.
-fn answer(
-    command: u8,
-    base: Table,
-    talk: State,
-    numbers: &[u64; 9216],
-    given: usize,
-    got: &mut [u64; 9216],
-) -> usize {
-    match command {
-        b'j' | b't' | b'p' | b'v' => tables::answer(command, base, numbers, given, got),
-        b'm' | b'n' | b'h' => messages::answer(command, numbers, given, got),
-        b'k' => messages::make(base, numbers, given, got),
-        b'q' | b'r' => texts::answer(command, numbers, given, got),
-        b's' | b'g' | b'u' | b'w' => steps::answer(command, base, talk, numbers, given, got),
-        b'x' | b'y' => fits::answer(command, numbers, given, got),
-        b'o' | b'z' => reports::answer(command, numbers, given, got),
-        _ => 0,
-    }
-}
-
-// Whether numbers[given..total] are the first n of `got`, and there are any.
-fn agrees(numbers: &[u64; 9216], given: usize, total: usize, got: &[u64; 9216], n: usize) -> bool {
-    if total <= given {
-        return false;
-    }
-    if total - given != n {
-        return false;
-    }
-    let mut k: usize = 0;
-    while k < n {
-        let at = given + k;
-        if 9216 <= at {
-            return false;
-        }
-        if numbers[at] != got[k] {
-            return false;
-        }
-        k += 1;
-    }
-    true
-}
-
-fn print_numbers(got: &[u64; 9216], n: usize) {
-    let mut k: usize = 0;
-    while k < n {
-        if 9216 <= k {
-            return;
-        }
-        io::write_all(STDOUT_FILENO, b" ");
-        io::print_hex(STDOUT_FILENO, got[k], 1);
-        k += 1;
-    }
-}
-
-fn print_wrong(line: u64, got: &[u64; 9216], n: usize) {
-    io::write_all(STDOUT_FILENO, b"line ");
-    io::print_decimal(STDOUT_FILENO, line);
-    io::write_all(STDOUT_FILENO, b" gives");
-    print_numbers(got, n);
-    io::write_all(STDOUT_FILENO, b"\n");
-}
-
-// Whether the line's case goes as it should; where it does not, it is printed.
-fn right(
-    l: line::Line,
-    number: u64,
-    base: Table,
-    talk: State,
-    numbers: &[u64; 9216],
-    got: &mut [u64; 9216],
-) -> bool {
-    let n = answer(l.command, base, talk, numbers, l.given, got);
-    let ok = agrees(numbers, l.given, l.total, got, n);
-    if !ok {
-        print_wrong(number, got, n);
-    }
-    ok
-}
-
-// The tally with a case more.
-fn counted(tally: Tally, ok: bool) -> Tally
-    requires { ⌜ (tally .lines ≤ 65536) × (tally .cases < tally .lines) × (tally .wrong < tally .lines) ⌝ }
-    ensures { λ r. ⌜ (r .lines ≤ tally .lines) × (r .cases ≤ r .lines) × (r .wrong ≤ r .lines) ⌝ }
+// Where a column begins. Columns: 0 states, 1 branches, 2 sort, 3 owner, 4 target, 5 fields, 6 label, 7 kind, 8 low, 9 high.
+fn column(n: u64) -> usize
+    ensures { λ r. ⌜ r ≤ 1698 ⌝ }
 {
-    let mut t = tally;
-    t.cases += 1;
-    if !ok {
-        t.wrong += 1;
+    match n {
+        0 => table::STATES,
+        1 => table::BRANCHES,
+        2 => table::SORT,
+        3 => table::OWNER,
+        4 => table::TARGET,
+        5 => table::FIELDS,
+        6 => table::LABEL_LOW,
+        7 => table::KIND,
+        8 => table::LOW,
+        _ => table::HIGH,
+    }
+}
+
+// A label is one number, and two words of the table.
+fn edit(t: &mut Table, n: u64, index: usize, value: u64)
+    requires { ⌜ index ≤ 511 ⌝ }
+{
+    if n == 6 {
+        t[table::LABEL_HIGH + index] = (value / 4294967296) as u32;
+    }
+    t[column(n) + index] = (value % 4294967296) as u32;
+}
+
+// The empty table with the edits, each of them column, index and value.
+fn build(numbers: &[u64; 512], given: usize) -> Table {
+    let mut t = table::empty();
+    let mut at: usize = 0;
+    while at < given {
+        if 509 < at {
+            return t;
+        }
+        let index = (numbers[at + 1] % 512) as usize;
+        edit(&mut t, numbers[at], index, numbers[at + 2]);
+        at += 3;
     }
     t
 }
 
-// Every case of one file.
-fn run(s: &[u8]) -> Tally
-    requires { ⌜ length (now s) ≤ 65536 ⌝ }
-{
-    let mut numbers = [0u64; 9216];
-    let mut got = [0u64; 9216];
-    let mut base = table::empty();
-    let mut talk = monitor::fresh();
-    let mut tally = Tally {
-        lines: 0,
-        cases: 0,
-        wrong: 0,
-    };
-    let mut at: usize = 0;
-    while at < s.len() {
-        let l = line::parse(s, at, &mut numbers);
-        at = l.next;
-        tally.lines += 1;
-        if l.command == b'j' {
-            base = tables::edited(table::empty(), &numbers, 0, l.given);
-        }
-        if l.command != 0 {
-            let ok = right(l, tally.lines, base, talk, &numbers, &mut got);
-            tally = counted(tally, ok);
-            talk = steps::goes_on(l.command, talk, &got);
-        }
+// The numbers as bytes.
+fn bytes_of(numbers: &[u64; 512]) -> [u8; 512] {
+    let mut bytes = [0u8; 512];
+    let mut k: usize = 0;
+    while k < 512 {
+        bytes[k] = (numbers[k] % 256) as u8;
+        k += 1;
     }
-    tally
+    bytes
 }
 
-fn print_tally(name: &[u8], tally: Tally) {
-    io::write_all(STDOUT_FILENO, name);
-    io::write_all(STDOUT_FILENO, b": ");
-    io::print_decimal(STDOUT_FILENO, tally.cases);
+// What comes of a line's case. `talk` is the state of the conversation that goes on.
+fn outcome(l: Line, t: &Table, talk: State, numbers: &[u64; 512]) -> Outcome
+    requires { ⌜ (l .given ≤ l .total) × (l .total ≤ 512) ⌝ }
+{
+    let bytes = bytes_of(numbers);
+    let all = &bytes[..];
+    let given = l.given;
+    let total = l.total;
+    let wanted = &all[given..total];
+    let command = l.command;
+    match command {
+        b's' => {
+            let from = line::lesser(4, given);
+            let s = step::state_of(numbers[0], numbers[1]);
+            let r = step::step(t, s, numbers[2], numbers[3], &all[from..given], wanted);
+            Outcome {
+                right: r.right,
+                state: talk,
+            }
+        }
+        b'u' => {
+            let from = line::lesser(2, given);
+            step::step(t, talk, numbers[0], numbers[1], &all[from..given], wanted)
+        }
+        b'g' => fresh(wanted),
+        _ => sound(t, talk, wanted),
+    }
+}
+
+fn fresh(wanted: &[u8]) -> Outcome {
+    let state = monitor::fresh();
+    let right = step::is_state(state, wanted);
+    Outcome { right, state }
+}
+
+fn sound(t: &Table, talk: State, wanted: &[u8]) -> Outcome {
+    let question = [if table::sound(t) { 0 } else { 9 }];
+    let right = step::same(&question, wanted);
+    Outcome { right, state: talk }
+}
+
+fn is_case(command: u8) -> bool {
+    match command {
+        b'j' | b'g' | b's' | b'u' => true,
+        _ => false,
+    }
+}
+
+fn print_wrong(line: u64) {
+    io::print_decimal(STDOUT_FILENO, line);
+    io::write_all(STDOUT_FILENO, b": wrong\n");
+}
+
+fn print_count(cases: u64, wrong: u64) {
+    io::write_all(STDOUT_FILENO, b"monitor: ");
+    io::print_decimal(STDOUT_FILENO, cases);
     io::write_all(STDOUT_FILENO, b" cases, ");
-    io::print_decimal(STDOUT_FILENO, tally.wrong);
+    io::print_decimal(STDOUT_FILENO, wrong);
     io::write_all(STDOUT_FILENO, b" wrong\n");
 }
 
-fn run_file(name: &[u8]) {
-    let mut buf = io::large_buffer();
-    let n = load(name, &mut buf);
-    print_tally(name, run(&buf[..n]));
+// Every case of the file.
+fn run(s: &[u8])
+    requires { ⌜ length (now s) ≤ 65536 ⌝ }
+{
+    let mut numbers = [0u64; 512];
+    let mut t = table::empty();
+    let mut talk = monitor::fresh();
+    let mut l = line::begin();
+    let mut lines: u64 = 0;
+    let mut cases: u64 = 0;
+    let mut wrong: u64 = 0;
+    let mut at: usize = 0;
+    while at < s.len() {
+        let b = s[at];
+        at += 1;
+        if b != b'\n' {
+            l = line::take(l, b, &mut numbers);
+            continue;
+        }
+        let case = line::end(l, &mut numbers);
+        l = line::begin();
+        lines += 1;
+        if case.command == b'j' {
+            t = build(&numbers, case.given);
+        }
+        if is_case(case.command) {
+            let r = outcome(case, &t, talk, &numbers);
+            talk = r.state;
+            cases += 1;
+            if !r.right {
+                wrong += 1;
+                print_wrong(lines);
+            }
+        }
+    }
+    print_count(cases, wrong);
 }
 
 fn main() {
-    run_file(b"tables");
-    run_file(b"messages");
-    run_file(b"texts");
-    run_file(b"monitor");
-    run_file(b"fits");
-    run_file(b"reports");
+    let mut buf = io::large_buffer();
+    let n = load(b"monitor", &mut buf);
+    run(&buf[..n]);
 }

@@ -2,6 +2,8 @@
 use borrow.Author.Needs.{needs}
 use Rattle.cases.proofs.line.put.Statement.{statement}
 use Rattle.cases.proofs.line.put.Tie as tie
+use Rattle.cases.proofs.line.put.Reads as reads
+use Rattle.cases.proofs.line.put.Lts as lts
 
 abbrev Inv-loop : tie.InvT-loop
 Inv-loop numbers₀ n value times at₀ left₀ numbers at left = Unit {0}
