@@ -1,22 +1,20 @@
 // One line of a file of cases: `COMMAND given = wanted # comment`.
 // The command is one letter from g to z. Given and wanted are numbers in hexadecimal, with capital letters; `20*5` is the
 // number 0x20 five times, and a text in double quotes stands for its bytes. A line without a command is no case.
-ghost use Prim.Native.Nat.{_≤_, _<_};
 
-// How far a line is read. Its numbers stand in an array of 512, and what is beyond is dropped: the first `given` of them are given,
-// and those from there up to `total` wanted.
+// How far a line is read. Its numbers stand in an array, and what is beyond the array is dropped: the first `given` of them are
+// given, and those from there up to `total` wanted.
 pub struct Line {
     pub command: u8,
     pub given: usize,
     pub total: usize,
-    // what is being read
     mode: u8,
     // the number that is being read, and the one that it repeats
     value: u64,
     repeated: u64,
 }
 
-// Between words; in a number; in what says how often the number before `*` is repeated; in a text; in a comment.
+// What is being read: nothing, a number, how often the number before `*` is repeated, a text, a comment.
 const PLAIN: u8 = 0;
 
 const NUMBER: u8 = 1;
@@ -30,7 +28,7 @@ const COMMENT: u8 = 4;
 pub fn begin() -> Line {
     Line {
         command: 0,
-        given: 512,
+        given: 0,
         total: 0,
         mode: PLAIN,
         value: 0,
@@ -50,29 +48,7 @@ pub fn take(line: Line, b: u8, numbers: &mut [u64; 512]) -> Line {
     if d < 16 {
         return take_digit(line, d);
     }
-    if b == b'*' {
-        return take_star(line);
-    }
-    take_mark(word_over(line, numbers), b)
-}
-
-// The line is over. Without a `=`, nothing is wanted.
-pub fn end(line: Line, numbers: &mut [u64; 512]) -> Line
-    ensures { λ r. ⌜ (r .given ≤ r .total) × (r .total ≤ 512) ⌝ }
-{
-    let mut l = word_over(line, numbers);
-    l.total = lesser(l.total, 512);
-    l.given = lesser(l.given, l.total);
-    l
-}
-
-pub fn lesser(a: usize, b: usize) -> usize
-    ensures { λ r. ⌜ r ≤ b ⌝ }
-{
-    if a < b {
-        return a;
-    }
-    b
+    take_mark(line, b, numbers)
 }
 
 fn take_text(line: Line, b: u8, numbers: &mut [u64; 512]) -> Line {
@@ -85,27 +61,24 @@ fn take_text(line: Line, b: u8, numbers: &mut [u64; 512]) -> Line {
     l
 }
 
-fn take_digit(line: Line, d: u8) -> Line
-    requires { ⌜ d < 16 ⌝ }
-{
+fn take_digit(line: Line, d: u8) -> Line {
     let mut l = line;
-    l.value = l.value % 0x1000_0000_0000_0000 * 16 + d as u64;
+    l.value = l.value % 0x1000_0000_0000_0000 * 16 + (d % 16) as u64;
     if l.mode == PLAIN {
         l.mode = NUMBER;
     }
     l
 }
 
-fn take_star(line: Line) -> Line {
+fn take_mark(line: Line, b: u8, numbers: &mut [u64; 512]) -> Line {
     let mut l = line;
-    l.mode = TIMES;
-    l.repeated = l.value;
-    l.value = 0;
-    l
-}
-
-fn take_mark(line: Line, b: u8) -> Line {
-    let mut l = line;
+    if b == b'*' {
+        l.mode = TIMES;
+        l.repeated = l.value;
+        l.value = 0;
+        return l;
+    }
+    l = end(l, numbers);
     match b {
         b'#' => l.mode = COMMENT,
         b'"' => l.mode = TEXT,
@@ -116,8 +89,8 @@ fn take_mark(line: Line, b: u8) -> Line {
     l
 }
 
-// The word that is being read, if any is, is over.
-fn word_over(line: Line, numbers: &mut [u64; 512]) -> Line {
+// A number that is being read is over.
+pub fn end(line: Line, numbers: &mut [u64; 512]) -> Line {
     let mut l = line;
     if l.mode == NUMBER {
         l.total = put(numbers, l.total, l.value, 1);

@@ -1,35 +1,29 @@
-// Puts the file `monitor` through `monitor::advance`, the step over a lent state, which no program in another language can call.
-// A case that goes wrong is printed with its line's number; the last line counts the cases.
-//   j edits = 9-or-0                        the table that later lines use: the empty table with these edits; is it sound?
-//   g = position standing                   a fresh conversation
-//   s position standing side room message = verdict position standing output      one step
-//   u side room message = verdict position standing output                        the next step of the conversation
-// The lines w, the due part, are left to the tests in Rust, which read this file and the others too.
+// Puts the steps of the file `monitor` through `monitor::advance`, the step over a lent state, which no export can reach: an enum
+// cannot cross to C. A step that goes wrong is printed with its line's number; the last line counts the steps.
+//   j edits                      the table of the lines after it: the empty table with these edits, each of them column, index and value
+//   g                            the state is that of a fresh conversation
+//   s position standing side room message = verdict position standing output      a step from the state that the line gives
+//   u side room message = verdict position standing output                        a step from the state that the line before it left
+// What j and g want, and the lines w, the due part, are left to the tests in Rust, which put all of the file through the other calls.
 ghost use Prim.Native.Nat.{_≤_};
-ghost use lib.ListN.{length};
-ghost use Rattle.io.specs.Counts.{Counts};
 use libc::STDOUT_FILENO;
 use line::Line;
 use monitor::State;
+use std::num::wrapping_add_u64;
 use step::Outcome;
 use table::Table;
 
 mod line;
 mod step;
 
-fn load(name: &[u8], buf: &mut [u8]) -> usize
-    ensures { λ r. ⌜ Counts r (now (buf .exit)) ⌝ }
-{
-    let fd = os::open_read(name);
-    if fd < 0 {
-        return 0;
-    }
-    let n = io::read_full(fd, buf);
-    libc::close(fd);
-    n
+// How many lines and steps there were, and how many of the steps went wrong.
+struct Tally {
+    lines: u64,
+    steps: u64,
+    wrong: u64,
 }
 
-// Where a column begins. Columns: 0 states, 1 branches, 2 sort, 3 owner, 4 target, 5 fields, 6 label, 7 kind, 8 low, 9 high.
+// Where a column begins: states, branches, sort, owner, target, fields, label, kind, low, high.
 fn column(n: u64) -> usize
     ensures { λ r. ⌜ r ≤ 1698 ⌝ }
 {
@@ -47,17 +41,7 @@ fn column(n: u64) -> usize
     }
 }
 
-// A label is one number, and two words of the table.
-fn edit(t: &mut Table, n: u64, index: usize, value: u64)
-    requires { ⌜ index ≤ 511 ⌝ }
-{
-    if n == 6 {
-        t[table::LABEL_HIGH + index] = (value / 4294967296) as u32;
-    }
-    t[column(n) + index] = (value % 4294967296) as u32;
-}
-
-// The empty table with the edits, each of them column, index and value.
+// The empty table with the edits. A label is one number in the file, and two words in the table.
 fn build(numbers: &[u64; 512], given: usize) -> Table {
     let mut t = table::empty();
     let mut at: usize = 0;
@@ -66,13 +50,17 @@ fn build(numbers: &[u64; 512], given: usize) -> Table {
             return t;
         }
         let index = (numbers[at + 1] % 512) as usize;
-        edit(&mut t, numbers[at], index, numbers[at + 2]);
+        let value = numbers[at + 2];
+        let n = numbers[at];
         at += 3;
+        t[column(n) + index] = (value % 4294967296) as u32;
+        if n == 6 {
+            t[table::LABEL_HIGH + index] = (value / 4294967296 % 4294967296) as u32;
+        }
     }
     t
 }
 
-// The numbers as bytes.
 fn bytes_of(numbers: &[u64; 512]) -> [u8; 512] {
     let mut bytes = [0u8; 512];
     let mut k: usize = 0;
@@ -83,78 +71,93 @@ fn bytes_of(numbers: &[u64; 512]) -> [u8; 512] {
     bytes
 }
 
-// What comes of a line's case. `talk` is the state of the conversation that goes on.
-fn outcome(l: Line, t: &Table, talk: State, numbers: &[u64; 512]) -> Outcome
-    requires { ⌜ (l .given ≤ l .total) × (l .total ≤ 512) ⌝ }
+// The state in which a line begins, `s` being where the line before it ended.
+fn state_of(command: u8, s: State, numbers: &[u64; 512]) -> State {
+    match command {
+        b'g' => monitor::fresh(),
+        b's' => State {
+            position: (numbers[0] % 256) as u8,
+            standing: step::standing_of(numbers[1]),
+        },
+        _ => s,
+    }
+}
+
+// How many numbers stand before the message, the last two its side and the room; 0 where there is no step.
+fn front(command: u8) -> usize
+    ensures { λ r. ⌜ r ≤ 4 ⌝ }
 {
+    match command {
+        b's' => 4,
+        b'u' => 2,
+        _ => 0,
+    }
+}
+
+// The bytes from one place up to another; none where there are no such places.
+fn part<'a>(bytes: &'a [u8], from: usize, to: usize) -> &'a [u8] {
+    if to < from {
+        return &bytes[..0];
+    }
+    if bytes.len() < to {
+        return &bytes[..0];
+    }
+    &bytes[from..to]
+}
+
+// What comes of a line. A line with no step is right.
+fn outcome(l: Line, t: &Table, before: State, numbers: &[u64; 512]) -> Outcome {
+    let command = l.command;
+    let state = state_of(command, before, numbers);
+    let from = front(command);
+    if from < 2 {
+        return Outcome { right: true, state };
+    }
     let bytes = bytes_of(numbers);
     let all = &bytes[..];
-    let given = l.given;
-    let total = l.total;
-    let wanted = &all[given..total];
-    let command = l.command;
-    match command {
-        b's' => {
-            let from = line::lesser(4, given);
-            let s = step::state_of(numbers[0], numbers[1]);
-            let r = step::step(t, s, numbers[2], numbers[3], &all[from..given], wanted);
-            Outcome {
-                right: r.right,
-                state: talk,
-            }
-        }
-        b'u' => {
-            let from = line::lesser(2, given);
-            step::step(t, talk, numbers[0], numbers[1], &all[from..given], wanted)
-        }
-        b'g' => fresh(wanted),
-        _ => sound(t, talk, wanted),
-    }
-}
-
-fn fresh(wanted: &[u8]) -> Outcome {
-    let state = monitor::fresh();
-    let right = step::is_state(state, wanted);
-    Outcome { right, state }
-}
-
-fn sound(t: &Table, talk: State, wanted: &[u8]) -> Outcome {
-    let question = [if table::sound(t) { 0 } else { 9 }];
-    let right = step::same(&question, wanted);
-    Outcome { right, state: talk }
-}
-
-fn is_case(command: u8) -> bool {
-    match command {
-        b'j' | b'g' | b's' | b'u' => true,
-        _ => false,
-    }
+    let message = part(all, from, l.given);
+    let wanted = part(all, l.given, l.total);
+    step::step(
+        t,
+        state,
+        numbers[from - 2],
+        numbers[from - 1],
+        message,
+        wanted,
+    )
 }
 
 fn print_wrong(line: u64) {
+    io::write_all(STDOUT_FILENO, b"line ");
     io::print_decimal(STDOUT_FILENO, line);
-    io::write_all(STDOUT_FILENO, b": wrong\n");
+    io::write_all(STDOUT_FILENO, b" is wrong\n");
 }
 
-fn print_count(cases: u64, wrong: u64) {
-    io::write_all(STDOUT_FILENO, b"monitor: ");
-    io::print_decimal(STDOUT_FILENO, cases);
-    io::write_all(STDOUT_FILENO, b" cases, ");
-    io::print_decimal(STDOUT_FILENO, wrong);
-    io::write_all(STDOUT_FILENO, b" wrong\n");
+// The tally with a line more.
+fn counted(tally: Tally, command: u8, right: bool) -> Tally {
+    let mut r = tally;
+    r.lines = wrapping_add_u64(r.lines, 1);
+    if front(command) != 0 {
+        r.steps = wrapping_add_u64(r.steps, 1);
+    }
+    if !right {
+        r.wrong = wrapping_add_u64(r.wrong, 1);
+        print_wrong(r.lines);
+    }
+    r
 }
 
-// Every case of the file.
-fn run(s: &[u8])
-    requires { ⌜ length (now s) ≤ 65536 ⌝ }
-{
+// Every line of the file.
+fn run(s: &[u8]) -> Tally {
     let mut numbers = [0u64; 512];
     let mut t = table::empty();
-    let mut talk = monitor::fresh();
+    let mut state = monitor::fresh();
     let mut l = line::begin();
-    let mut lines: u64 = 0;
-    let mut cases: u64 = 0;
-    let mut wrong: u64 = 0;
+    let mut tally = Tally {
+        lines: 0,
+        steps: 0,
+        wrong: 0,
+    };
     let mut at: usize = 0;
     while at < s.len() {
         let b = s[at];
@@ -163,27 +166,25 @@ fn run(s: &[u8])
             l = line::take(l, b, &mut numbers);
             continue;
         }
-        let case = line::end(l, &mut numbers);
+        l = line::end(l, &mut numbers);
+        if l.command == b'j' {
+            t = build(&numbers, l.given);
+        }
+        let r = outcome(l, &t, state, &numbers);
+        state = r.state;
+        tally = counted(tally, l.command, r.right);
         l = line::begin();
-        lines += 1;
-        if case.command == b'j' {
-            t = build(&numbers, case.given);
-        }
-        if is_case(case.command) {
-            let r = outcome(case, &t, talk, &numbers);
-            talk = r.state;
-            cases += 1;
-            if !r.right {
-                wrong += 1;
-                print_wrong(lines);
-            }
-        }
     }
-    print_count(cases, wrong);
+    tally
 }
 
 fn main() {
     let mut buf = io::large_buffer();
-    let n = load(b"monitor", &mut buf);
-    run(&buf[..n]);
+    let n = io::read_full(os::open_read(b"monitor"), &mut buf);
+    let r = run(&buf[..n]);
+    io::write_all(STDOUT_FILENO, b"monitor: ");
+    io::print_decimal(STDOUT_FILENO, r.steps);
+    io::write_all(STDOUT_FILENO, b" steps, ");
+    io::print_decimal(STDOUT_FILENO, r.wrong);
+    io::write_all(STDOUT_FILENO, b" wrong\n");
 }

@@ -1,4 +1,6 @@
-// The step over a lent state, and whether it goes as a case wants it; the file `monitor` says what the numbers are.
+// The step over a lent state, and whether it goes as a line wants it. Sides: 0 device, 1 host. Standings: 0 running, 1 device blamed,
+// 2 host blamed. A verdict is four numbers: 0 question 0 0, refused; 1 party reason field, blamed, the field FF where there is none;
+// 2 0 0 0, forwarded.
 ghost use mathlib.Core.Path.{_≡_};
 ghost use Rattle.monitor.specs.Step.{stepping, stepped};
 use monitor::Party;
@@ -9,7 +11,13 @@ use monitor::Stepped;
 use monitor::Verdict;
 use table::Table;
 
-// The call that the cases are for. The state is lent to it.
+// Whether a step goes as it should, and the state that it leads to.
+pub struct Outcome {
+    pub right: bool,
+    pub state: State,
+}
+
+// The call that the program is for: the state is lent to it.
 fn advanced(t: &Table, s: State, side: Party, message: &[u8], out: &mut [u8]) -> Stepped
     ensures { λ r. ⌜ stepped r (now (out .exit)) ≡ stepping (now (t .entry)) s side (now (message .entry)) (now (out .entry)) ⌝ }
 {
@@ -18,13 +26,7 @@ fn advanced(t: &Table, s: State, side: Party, message: &[u8], out: &mut [u8]) ->
     Stepped { state, verdict }
 }
 
-// Whether a case goes as it should, and the state that it leads to.
-pub struct Outcome {
-    pub right: bool,
-    pub state: State,
-}
-
-// One step, into an output of `room` bytes 0xEE.
+// A step into an output of `room` bytes 0xEE.
 pub fn step(t: &Table, s: State, side: u64, room: u64, message: &[u8], wanted: &[u8]) -> Outcome {
     let mut out = [0xEEu8; 512];
     let n = (room % 512) as usize;
@@ -41,38 +43,23 @@ fn step_into(
 ) -> Outcome {
     let r = advanced(t, s, side, message, out);
     let state = r.state;
-    let right = is_step(r, out, wanted);
+    let right = is_wanted(r, out, wanted);
     Outcome { right, state }
 }
 
 // Wanted are the verdict, the state and the output.
-fn is_step(r: Stepped, out: &[u8], wanted: &[u8]) -> bool {
+fn is_wanted(r: Stepped, out: &[u8], wanted: &[u8]) -> bool {
     if wanted.len() < 6 {
         return false;
     }
-    let verdict = r.verdict;
-    let state = r.state;
-    if !is_verdict(verdict, &wanted[0..4]) {
-        return false;
-    }
-    if !is_state(state, &wanted[4..6]) {
+    let numbers = numbers_of(r);
+    if !same(&numbers, &wanted[0..6]) {
         return false;
     }
     same(out, &wanted[6..])
 }
 
-fn is_verdict(v: Verdict, wanted: &[u8]) -> bool {
-    let numbers = verdict_numbers(v);
-    same(&numbers, wanted)
-}
-
-pub fn is_state(s: State, wanted: &[u8]) -> bool {
-    let standing = s.standing;
-    let numbers = [s.position, standing_number(standing)];
-    same(&numbers, wanted)
-}
-
-pub fn same(a: &[u8], b: &[u8]) -> bool {
+fn same(a: &[u8], b: &[u8]) -> bool {
     if a.len() != b.len() {
         return false;
     }
@@ -86,18 +73,48 @@ pub fn same(a: &[u8], b: &[u8]) -> bool {
     true
 }
 
-pub fn state_of(position: u64, standing: u64) -> State {
-    State {
-        position: (position % 256) as u8,
-        standing: standing_of(standing),
+fn numbers_of(r: Stepped) -> [u8; 6] {
+    let verdict = r.verdict;
+    let state = r.state;
+    let standing = state.standing;
+    let v = verdict_numbers(verdict);
+    [
+        v[0],
+        v[1],
+        v[2],
+        v[3],
+        state.position,
+        standing_number(standing),
+    ]
+}
+
+fn verdict_numbers(v: Verdict) -> [u8; 4] {
+    match v {
+        Verdict::Refused(q) => [0, q, 0, 0],
+        Verdict::Blamed(p, why) => blame_numbers(party_number(p), why),
+        Verdict::Forwarded => [2, 0, 0, 0],
     }
 }
 
-fn standing_of(n: u64) -> Standing {
+fn blame_numbers(party: u8, why: Reason) -> [u8; 4] {
+    match why {
+        Reason::NoLabel => [1, party, 1, 255],
+        Reason::OtherKinds => [1, party, 2, 255],
+        Reason::OutOfRange(f) => [1, party, 3, f],
+    }
+}
+
+fn party_number(p: Party) -> u8 {
+    match p {
+        Party::Device => 0,
+        Party::Host => 1,
+    }
+}
+
+fn party_of(n: u64) -> Party {
     match n {
-        1 => Standing::DeviceBlamed,
-        2 => Standing::HostBlamed,
-        _ => Standing::Running,
+        0 => Party::Device,
+        _ => Party::Host,
     }
 }
 
@@ -109,39 +126,10 @@ fn standing_number(s: Standing) -> u8 {
     }
 }
 
-fn party_of(n: u64) -> Party {
+pub fn standing_of(n: u64) -> Standing {
     match n {
-        0 => Party::Device,
-        _ => Party::Host,
-    }
-}
-
-fn party_number(p: Party) -> u8 {
-    match p {
-        Party::Device => 0,
-        Party::Host => 1,
-    }
-}
-
-fn verdict_numbers(v: Verdict) -> [u8; 4] {
-    match v {
-        Verdict::Refused(q) => [0, q, 0, 0],
-        Verdict::Blamed(p, why) => [1, party_number(p), reason_number(why), field_number(why)],
-        Verdict::Forwarded => [2, 0, 0, 0],
-    }
-}
-
-fn reason_number(why: Reason) -> u8 {
-    match why {
-        Reason::NoLabel => 1,
-        Reason::OtherKinds => 2,
-        Reason::OutOfRange(_) => 3,
-    }
-}
-
-fn field_number(why: Reason) -> u8 {
-    match why {
-        Reason::OutOfRange(f) => f,
-        _ => 255,
+        1 => Standing::DeviceBlamed,
+        2 => Standing::HostBlamed,
+        _ => Standing::Running,
     }
 }

@@ -5,7 +5,7 @@ use Rattle.cases.proofs.build.Statement.{statement}
 use Rattle.cases.proofs.build.Tie as tie
 use Rattle.cases.proofs.build.Reads as reads
 use Rattle.cases.proofs.build.Lts as lts
-use Rattle.cases.proofs.edit.Reads as edit-reads
+use Rattle.cases.proofs.column.Reads as column-reads
 use Rattle.table.proofs.empty.Reads as empty-reads
 
 abbrev Inv-loop : tie.InvT-loop
@@ -32,32 +32,62 @@ mul-index c = search needs
 element-copy-out-index : tie.Need-element-copy-out-index Inv-loop μ-loop
 element-copy-out-index c = search needs
 
-mul-edit : tie.Need-mul-edit Inv-loop μ-loop
-mul-edit c = search needs
+add-value : tie.Need-add-value Inv-loop μ-loop
+add-value c = search needs
 
-element-copy-out-edit : tie.Need-element-copy-out-edit Inv-loop μ-loop
-element-copy-out-edit c = search needs
+mul-value : tie.Need-mul-value Inv-loop μ-loop
+mul-value c = search needs
 
-add-edit : tie.Need-add-edit Inv-loop μ-loop
-add-edit c = search needs
+element-copy-out-value : tie.Need-element-copy-out-value Inv-loop μ-loop
+element-copy-out-value c = search needs
 
-mul-edit-2 : tie.Need-mul-edit-2 Inv-loop μ-loop
-mul-edit-2 c = search needs
+mul-n : tie.Need-mul-n Inv-loop μ-loop
+mul-n c = search needs
 
-element-copy-out-edit-2 : tie.Need-element-copy-out-edit-2 Inv-loop μ-loop
-element-copy-out-edit-2 c = search needs
-
-edit-requires : tie.Need-edit-requires Inv-loop μ-loop
-edit-requires c κs = search needs
+element-copy-out-n : tie.Need-element-copy-out-n Inv-loop μ-loop
+element-copy-out-n c = search needs
 
 add-at : tie.Need-add-at Inv-loop μ-loop
 add-at c = search needs
+
+cast-t : tie.Need-cast-t Inv-loop μ-loop
+cast-t c = search needs
+
+column-requires : tie.Need-column-requires Inv-loop μ-loop
+column-requires c κs = search needs
+
+add-t : tie.Need-add-t Inv-loop μ-loop
+add-t c = search needs
+
+mul-t : tie.Need-mul-t Inv-loop μ-loop
+mul-t c = search needs
+
+array-write-t : tie.Need-array-write-t Inv-loop μ-loop
+array-write-t c = search needs
+
+cast-t-2 : tie.Need-cast-t-2 Inv-loop μ-loop
+cast-t-2 c = search needs
+
+add-t-2 : tie.Need-add-t-2 Inv-loop μ-loop
+add-t-2 c = search needs
+
+mul-t-2 : tie.Need-mul-t-2 Inv-loop μ-loop
+mul-t-2 c = search needs
+
+array-write-t-2 : tie.Need-array-write-t-2 Inv-loop μ-loop
+array-write-t-2 c = search needs
 
 loop-less : tie.Need-loop-less Inv-loop μ-loop
 loop-less c = search needs
 
 loop-again : tie.Need-loop-again Inv-loop μ-loop
 loop-again c = search needs
+
+loop-less-2 : tie.Need-loop-less-2 Inv-loop μ-loop
+loop-less-2 c = search needs
+
+loop-again-2 : tie.Need-loop-again-2 Inv-loop μ-loop
+loop-again-2 c = search needs
 
 returns-2 : tie.Need-returns-2 Inv-loop μ-loop
 returns-2 c = search needs
@@ -74,13 +104,23 @@ build-spec =
     add-index
     mul-index
     element-copy-out-index
-    mul-edit
-    element-copy-out-edit
-    add-edit
-    mul-edit-2
-    element-copy-out-edit-2
-    edit-requires
+    add-value
+    mul-value
+    element-copy-out-value
+    mul-n
+    element-copy-out-n
     add-at
+    cast-t
+    column-requires
+    add-t
+    mul-t
+    array-write-t
+    cast-t-2
+    add-t-2
+    mul-t-2
+    array-write-t-2
     loop-less
     loop-again
+    loop-less-2
+    loop-again-2
     returns-2)
