@@ -8,29 +8,19 @@ pub struct Line {
     pub command: u8,
     pub given: usize,
     pub total: usize,
+    // what is being read: `#` a comment, `"` a text, `0` a number, `*` how often the one before it is repeated, a space nothing
     mode: u8,
-    // the number that is being read, and the one that it repeats
+    // the number that is being read, and the one that is repeated
     value: u64,
     repeated: u64,
 }
-
-// What is being read: nothing, a number, how often the number before `*` is repeated, a text, a comment.
-const PLAIN: u8 = 0;
-
-const NUMBER: u8 = 1;
-
-const TIMES: u8 = 2;
-
-const TEXT: u8 = 3;
-
-const COMMENT: u8 = 4;
 
 pub fn begin() -> Line {
     Line {
         command: 0,
         given: 0,
         total: 0,
-        mode: PLAIN,
+        mode: b' ',
         value: 0,
         repeated: 0,
     }
@@ -38,50 +28,39 @@ pub fn begin() -> Line {
 
 // One byte more.
 pub fn take(line: Line, b: u8, numbers: &mut [u64; 512]) -> Line {
-    if line.mode == COMMENT {
+    if line.mode == b'#' {
         return line;
     }
-    if line.mode == TEXT {
-        return take_text(line, b, numbers);
+    let mut l = line;
+    if l.mode == b'"' {
+        if b == b'"' {
+            l.mode = b' ';
+        } else {
+            l.total = put(numbers, l.total, b as u64, 1);
+        }
+        return l;
     }
     let d = digit(b);
     if d < 16 {
-        return take_digit(line, d);
-    }
-    take_mark(line, b, numbers)
-}
-
-fn take_text(line: Line, b: u8, numbers: &mut [u64; 512]) -> Line {
-    let mut l = line;
-    if b == b'"' {
-        l.mode = PLAIN;
+        l.value = l.value % 0x1000_0000_0000_0000 * 16 + d as u64;
+        if l.mode == b' ' {
+            l.mode = b'0';
+        }
         return l;
     }
-    l.total = put(numbers, l.total, b as u64, 1);
-    l
-}
-
-fn take_digit(line: Line, d: u8) -> Line {
-    let mut l = line;
-    l.value = l.value % 0x1000_0000_0000_0000 * 16 + (d % 16) as u64;
-    if l.mode == PLAIN {
-        l.mode = NUMBER;
-    }
-    l
-}
-
-fn take_mark(line: Line, b: u8, numbers: &mut [u64; 512]) -> Line {
-    let mut l = line;
     if b == b'*' {
-        l.mode = TIMES;
+        l.mode = b'*';
         l.repeated = l.value;
         l.value = 0;
         return l;
     }
-    l = end(l, numbers);
+    take_mark(end(l, numbers), b)
+}
+
+fn take_mark(line: Line, b: u8) -> Line {
+    let mut l = line;
     match b {
-        b'#' => l.mode = COMMENT,
-        b'"' => l.mode = TEXT,
+        b'#' | b'"' => l.mode = b,
         b'=' => l.given = l.total,
         b'g'..=b'z' => l.command = b,
         _ => {}
@@ -92,13 +71,13 @@ fn take_mark(line: Line, b: u8, numbers: &mut [u64; 512]) -> Line {
 // A number that is being read is over.
 pub fn end(line: Line, numbers: &mut [u64; 512]) -> Line {
     let mut l = line;
-    if l.mode == NUMBER {
+    if l.mode == b'0' {
         l.total = put(numbers, l.total, l.value, 1);
     }
-    if l.mode == TIMES {
+    if l.mode == b'*' {
         l.total = put(numbers, l.total, l.repeated, l.value);
     }
-    l.mode = PLAIN;
+    l.mode = b' ';
     l.value = 0;
     l
 }

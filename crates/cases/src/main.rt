@@ -1,10 +1,10 @@
 // Puts the steps of the file `monitor` through `monitor::advance`, the step over a lent state, which no export can reach: an enum
 // cannot cross to C. A step that goes wrong is printed with its line's number; the last line counts the steps.
-//   j edits                      the table of the lines after it: the empty table with these edits, each of them column, index and value
-//   g                            the state is that of a fresh conversation
-//   s position standing side room message = verdict position standing output      a step from the state that the line gives
-//   u side room message = verdict position standing output                        a step from the state that the line before it left
-// What j and g want, and the lines w, the due part, are left to the tests in Rust, which put all of the file through the other calls.
+//   j edits                    the table of the lines after it: the empty table with these edits, each of them column, index and value
+//   g                          the state of a fresh conversation
+//   s position standing side room message = verdict position standing output     a step from the state that the line gives
+//   u side room message = verdict position standing output                       a step from the state that the line before it left
+// What j and g want, and the lines w, which ask for the due part, are left to the tests in Rust: 28 of the file's 603 cases.
 ghost use Prim.Native.Nat.{_≤_};
 use libc::STDOUT_FILENO;
 use line::Line;
@@ -71,29 +71,6 @@ fn bytes_of(numbers: &[u64; 512]) -> [u8; 512] {
     bytes
 }
 
-// The state in which a line begins, `s` being where the line before it ended.
-fn state_of(command: u8, s: State, numbers: &[u64; 512]) -> State {
-    match command {
-        b'g' => monitor::fresh(),
-        b's' => State {
-            position: (numbers[0] % 256) as u8,
-            standing: step::standing_of(numbers[1]),
-        },
-        _ => s,
-    }
-}
-
-// How many numbers stand before the message, the last two its side and the room; 0 where there is no step.
-fn front(command: u8) -> usize
-    ensures { λ r. ⌜ r ≤ 4 ⌝ }
-{
-    match command {
-        b's' => 4,
-        b'u' => 2,
-        _ => 0,
-    }
-}
-
 // The bytes from one place up to another; none where there are no such places.
 fn part<'a>(bytes: &'a [u8], from: usize, to: usize) -> &'a [u8] {
     if to < from {
@@ -105,44 +82,48 @@ fn part<'a>(bytes: &'a [u8], from: usize, to: usize) -> &'a [u8] {
     &bytes[from..to]
 }
 
-// What comes of a line. A line with no step is right.
-fn outcome(l: Line, t: &Table, before: State, numbers: &[u64; 512]) -> Outcome {
-    let command = l.command;
-    let state = state_of(command, before, numbers);
-    let from = front(command);
-    if from < 2 {
-        return Outcome { right: true, state };
-    }
+// The step of a line whose message begins at `from`, its side and the room before it.
+fn step_of(l: Line, from: usize, t: &Table, s: State, numbers: &[u64; 512]) -> Outcome
+    requires { ⌜ (2 ≤ from) × (from ≤ 4) ⌝ }
+{
     let bytes = bytes_of(numbers);
     let all = &bytes[..];
     let message = part(all, from, l.given);
     let wanted = part(all, l.given, l.total);
-    step::step(
-        t,
-        state,
-        numbers[from - 2],
-        numbers[from - 1],
-        message,
-        wanted,
-    )
+    let side = numbers[from - 2];
+    let room = numbers[from - 1];
+    step::step(t, s, side, room, message, wanted)
 }
 
-fn print_wrong(line: u64) {
-    io::write_all(STDOUT_FILENO, b"line ");
-    io::print_decimal(STDOUT_FILENO, line);
-    io::write_all(STDOUT_FILENO, b" is wrong\n");
+// What comes of a line after one that ended in the state `s`. A line with no step is right.
+fn outcome(l: Line, t: &Table, s: State, numbers: &[u64; 512]) -> Outcome {
+    let command = l.command;
+    match command {
+        b'g' => Outcome {
+            right: true,
+            state: monitor::fresh(),
+        },
+        b's' => step_of(l, 4, t, step::state_of(numbers[0], numbers[1]), numbers),
+        b'u' => step_of(l, 2, t, s, numbers),
+        _ => Outcome {
+            right: true,
+            state: s,
+        },
+    }
 }
 
-// The tally with a line more.
+// The tally with a line more. No count wraps: the file has at most 65,536 bytes.
 fn counted(tally: Tally, command: u8, right: bool) -> Tally {
     let mut r = tally;
     r.lines = wrapping_add_u64(r.lines, 1);
-    if front(command) != 0 {
+    if command == b's' || command == b'u' {
         r.steps = wrapping_add_u64(r.steps, 1);
     }
     if !right {
         r.wrong = wrapping_add_u64(r.wrong, 1);
-        print_wrong(r.lines);
+        io::write_all(STDOUT_FILENO, b"wrong: line ");
+        io::print_decimal(STDOUT_FILENO, r.lines);
+        io::write_all(STDOUT_FILENO, b"\n");
     }
     r
 }

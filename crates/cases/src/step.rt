@@ -1,6 +1,4 @@
-// The step over a lent state, and whether it goes as a line wants it. Sides: 0 device, 1 host. Standings: 0 running, 1 device blamed,
-// 2 host blamed. A verdict is four numbers: 0 question 0 0, refused; 1 party reason field, blamed, the field FF where there is none;
-// 2 0 0 0, forwarded.
+// The step over a lent state, and whether it goes as a line wants it. The file `monitor` says what the numbers are.
 ghost use mathlib.Core.Path.{_≡_};
 ghost use Rattle.monitor.specs.Step.{stepping, stepped};
 use monitor::Party;
@@ -52,11 +50,12 @@ fn is_wanted(r: Stepped, out: &[u8], wanted: &[u8]) -> bool {
     if wanted.len() < 6 {
         return false;
     }
-    let numbers = numbers_of(r);
-    if !same(&numbers, &wanted[0..6]) {
-        return false;
-    }
-    same(out, &wanted[6..])
+    let verdict = r.verdict;
+    let state = r.state;
+    let standing = state.standing;
+    let v = verdict_numbers(verdict);
+    let s = [state.position, standing_number(standing)];
+    same(&v, &wanted[0..4]) && same(&s, &wanted[4..6]) && same(out, &wanted[6..])
 }
 
 fn same(a: &[u8], b: &[u8]) -> bool {
@@ -71,21 +70,6 @@ fn same(a: &[u8], b: &[u8]) -> bool {
         k += 1;
     }
     true
-}
-
-fn numbers_of(r: Stepped) -> [u8; 6] {
-    let verdict = r.verdict;
-    let state = r.state;
-    let standing = state.standing;
-    let v = verdict_numbers(verdict);
-    [
-        v[0],
-        v[1],
-        v[2],
-        v[3],
-        state.position,
-        standing_number(standing),
-    ]
 }
 
 fn verdict_numbers(v: Verdict) -> [u8; 4] {
@@ -126,7 +110,14 @@ fn standing_number(s: Standing) -> u8 {
     }
 }
 
-pub fn standing_of(n: u64) -> Standing {
+pub fn state_of(position: u64, standing: u64) -> State {
+    State {
+        position: (position % 256) as u8,
+        standing: standing_of(standing),
+    }
+}
+
+fn standing_of(n: u64) -> Standing {
     match n {
         1 => Standing::DeviceBlamed,
         2 => Standing::HostBlamed,
