@@ -1,6 +1,5 @@
-// One line of a file of cases: `COMMAND given = wanted # comment`.
-// The command is one letter from g to z. Given and wanted are numbers in hexadecimal, with capital letters; `20*5` is the
-// number 0x20 five times, and a text in double quotes stands for its bytes. A line without a command is no case.
+// One line of a file of cases: `COMMAND given = wanted # comment`. The command is one letter from g to z. Given and wanted are numbers
+// in hexadecimal, with capital letters; `20*5` is the number 0x20 five times, and a text in double quotes stands for its bytes.
 
 // How far a line is read. Its numbers stand in an array, and what is beyond the array is dropped: the first `given` of them are
 // given, and those from there up to `total` wanted.

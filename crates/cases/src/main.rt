@@ -61,6 +61,7 @@ fn build(numbers: &[u64; 512], given: usize) -> Table {
     t
 }
 
+// Of each number its lowest byte. In a step only the room is above 0xFF.
 fn bytes_of(numbers: &[u64; 512]) -> [u8; 512] {
     let mut bytes = [0u8; 512];
     let mut k: usize = 0;
@@ -87,28 +88,24 @@ fn step_of(l: Line, from: usize, t: &Table, s: State, numbers: &[u64; 512]) -> O
     requires { ⌜ (2 ≤ from) × (from ≤ 4) ⌝ }
 {
     let bytes = bytes_of(numbers);
-    let all = &bytes[..];
-    let message = part(all, from, l.given);
-    let wanted = part(all, l.given, l.total);
+    let message = part(&bytes, from, l.given);
+    let wanted = part(&bytes, l.given, l.total);
     let side = numbers[from - 2];
     let room = numbers[from - 1];
     step::step(t, s, side, room, message, wanted)
 }
 
-// What comes of a line after one that ended in the state `s`. A line with no step is right.
-fn outcome(l: Line, t: &Table, s: State, numbers: &[u64; 512]) -> Outcome {
+// What comes of a line after one that ended in the state. A line with no step is right.
+fn outcome(l: Line, t: &Table, state: State, numbers: &[u64; 512]) -> Outcome {
     let command = l.command;
     match command {
-        b'g' => Outcome {
-            right: true,
-            state: monitor::fresh(),
-        },
+        b'g' => {
+            let state = monitor::fresh();
+            Outcome { right: true, state }
+        }
         b's' => step_of(l, 4, t, step::state_of(numbers[0], numbers[1]), numbers),
-        b'u' => step_of(l, 2, t, s, numbers),
-        _ => Outcome {
-            right: true,
-            state: s,
-        },
+        b'u' => step_of(l, 2, t, state, numbers),
+        _ => Outcome { right: true, state },
     }
 }
 
