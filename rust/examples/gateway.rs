@@ -29,6 +29,7 @@ fn main() -> io::Result<()> {
 }
 
 pub fn run(log: &mut dyn Write) -> io::Result<()> {
+    assert!(sojimu::matches(), "the archive is of another version");
     // Texts are read once, when the gateway starts.
     if let Err(no) = Table::read(b"rec X.X") {
         writeln!(log, "text refused {} at {}", no.question.0, no.at)?;
@@ -47,6 +48,9 @@ pub fn run(log: &mut dyn Write) -> io::Result<()> {
     hear(&protocol, &mut talk, Party::Device, b"\0\0\0\x07", log)?;
     assert!(!hear(&protocol, &mut talk, Party::Device, b"Ask\0\0\0\0\0\x01\0\0\0\0\x65", log)?);
     assert_eq!(talk.state.standing, Standing::DEVICE_BLAMED);
+    // A device that speaks another language.
+    let mut strange = Conversation::default();
+    assert!(!hear(&protocol, &mut strange, Party::Device, b"GET / HTTP/1.1\r\n", log)?);
     Ok(())
 }
 
