@@ -3,7 +3,7 @@
 //! The calls are those of document 01 and bear its names: [`Table::read`], [`Table::dual`], [`Table::make`], [`Table::step`],
 //! [`Table::due`], [`Table::fit`], [`report_into`], and in [`message`] the questions that are asked of bytes alone. No call has a
 //! precondition, none but [`report`] allocates, none keeps anything, and a table is lent, never copied. What breaks the rules is
-//! refused by the number of its question, and a refusal changes nothing. [`matches`] says whether archive and wrapper belong
+//! refused by the number of its question, and a refusal changes nothing. [`matches()`] says whether archive and wrapper belong
 //! together.
 
 #[allow(unsafe_code)]
