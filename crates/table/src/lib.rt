@@ -331,12 +331,12 @@ pub fn dual(t: &Table) -> Turned
             table: empty(),
         };
     }
-    let mut d = *t;
-    turn(&mut d);
-    Turned {
+    let mut r = Turned {
         question: 0,
-        table: d,
-    }
+        table: *t,
+    };
+    turn(&mut r.table);
+    r
 }
 
 // Each sort's opposite: 1 and 2 are exchanged.
