@@ -94,9 +94,9 @@ pub fn label(t: &Table, k: usize) -> u64
     label_word(t[LABEL_HIGH + k], t[LABEL_LOW + k])
 }
 
-// A label's two words as one: of words behind a reference only a call says that they are words.
+// A label's two words as one.
 pub fn label_word(high: u32, low: u32) -> u64
-    ensures { λ r. ⌜ (r ≡ labelWord high low) × Word r ⌝ }
+    ensures { λ r. ⌜ r ≡ labelWord high low ⌝ }
 {
     high as u64 * 4294967296 + low as u64
 }
