@@ -1,0 +1,169 @@
+-- A sign, one dot or two that stand right at a place are the token there; and what passing over a token says of it.
+-- Assumes nothing.
+use mathlib.Core.Path.{_≡_, refl, sym, ap, _∙_}
+use mathlib.Core.Bool.{Bool, true, false, cond, _&&_}
+use mathlib.Core.List.{List}
+use Prim.Native.Nat.{ℕ, _+_, _-_, _≤_, _<_}
+use native.Mathlib.Omega.{arith}
+use lib.Dec.{eqb, ltb}
+use lib.ListN.{length, getD}
+use borrow.Author.Tests.{eq-eqb, eqb-true, eqb-false, lt-leb, ltb-true, ltb-false, lt-ltb}
+use Rattle.table.proofs.Lists.{both, never}
+use Rattle.text.specs.Token.{oneOf, signs, isSpace, isDot, classOf, runEnd, token, dotsAt, beginAt, tokenAt}
+use Rattle.text.specs.Recursive.{step, unexpectedAt, passed, expectAt, isAt, next, nextOf, nextAt}
+use Rattle.text.specs.declared.token.Token.{Token}
+use Rattle.text.specs.declared.token.Class.{Class}
+use Rattle.text.specs.declared.token.Class.the-variants.{Sign}
+use Rattle.text.specs.declared.step.Next.{Next}
+use Rattle.text.specs.declared.step.Step.{Step}
+use Rattle.text.proofs.Bytes.{sign-class}
+use Rattle.text.proofs.Runs.{run-on, run-off, run-out}
+use Rattle.text.proofs.FieldLaw.{no-zero}
+
+-- ---- the token that begins right at a place
+
+module _ (s : List ℕ) where
+  pub stands : (p b : ℕ) → isAt s p b ≡ true → (p < length s) × (getD s p 0 ≡ b)
+  stands p b e = let x = both (ltb p (length s)) (eqb (getD s p 0) b) e in (ltb-true _ _ (x .0), eqb-true _ _ (x .1))
+
+  -- a byte that is no space begins the token
+  begins : (p : ℕ) → p < length s → isSpace (getD s p 0) ≡ false → tokenAt s p ≡ beginAt s p (classOf (getD s p 0))
+  unfolding tokenAt
+  begins p h e = rw (run-off isSpace s p h e, lt-leb (length s) p h)
+
+  pub sign-here : (p b : ℕ) → isAt s p b ≡ true → oneOf signs b ≡ true → tokenAt s p ≡ token b p (p + 1)
+  unfolding beginAt
+  sign-here p b e g =
+      let x = stands p b e in
+      let y = sign-class b g in
+      begins p (x .0) (ap isSpace (x .1) ∙ y .1)
+      ∙ ap (beginAt s p) (ap classOf (x .1) ∙ y .0)
+      ∙ ap (λ n. token n p (p + 1)) (x .1)
+
+  -- the run of dots goes on past a dot, and ends where none stands
+  dots-on : (p : ℕ) → isAt s p 46 ≡ true → runEnd isDot s p ≡ runEnd isDot s (p + 1)
+  dots-on p e = let x = stands p 46 e in run-on isDot s p (x .0) (eq-eqb _ _ (x .1))
+
+  dots-off : (p : ℕ) → isAt s p 46 ≡ false → runEnd isDot s p ≡ p
+  dots-off p e = go (ltb p (length s)) refl e
+    where
+      go : (t : Bool) → ltb p (length s) ≡ t → (t && eqb (getD s p 0) 46) ≡ false → runEnd isDot s p ≡ p
+      go true h e = run-off isDot s p (ltb-true _ _ h) e
+      go false h e = run-out isDot s p (ltb-false _ _ h)
+
+  dots-begin : (p : ℕ) → isAt s p 46 ≡ true → tokenAt s p ≡ dotsAt s p
+  unfolding beginAt classOf
+  dots-begin p e =
+      let x = stands p 46 e in
+      begins p (x .0) (ap isSpace (x .1)) ∙ ap (λ b. beginAt s p (classOf b)) (x .1)
+
+  pub dot-here : (p : ℕ) → isAt s p 46 ≡ true → isAt s (p + 1) 46 ≡ false → tokenAt s p ≡ token 46 p (p + 1)
+  unfolding dotsAt
+  dot-here p e f =
+      let n : p + 1 - p ≡ 1 = omega arith in
+      dots-begin p e ∙ rw (dots-on p e, dots-off (p + 1) f, n)
+
+  pub dots-here : (p : ℕ) → isAt s p 46 ≡ true → isAt s (p + 1) 46 ≡ true → isAt s (p + 2) 46 ≡ false → tokenAt s p ≡ token 58 p (p + 2)
+  unfolding dotsAt
+  dots-here p e f g =
+      let n : p + 2 - p ≡ 2 = omega arith in
+      let m : p + 1 + 1 ≡ p + 2 = omega arith in
+      dots-begin p e ∙ rw (dots-on p e, dots-on (p + 1) f, m, dots-off (p + 2) g, n)
+
+  -- ---- passing over it
+
+  pub sign-passed : (p b : ℕ) → isAt s p b ≡ true → oneOf signs b ≡ true → step 0 (p + 1) ≡ expectAt s p b
+  unfolding expectAt passed
+  sign-passed p b e g = rw (sign-here p b e g, eq-eqb b b refl)
+
+  pub dot-passed : (p : ℕ) → isAt s p 46 ≡ true → isAt s (p + 1) 46 ≡ false → step 0 (p + 1) ≡ expectAt s p 46
+  unfolding expectAt passed
+  dot-passed p e f = rw (dot-here p e f)
+
+  pub dots-passed : (p : ℕ) → isAt s p 46 ≡ true → isAt s (p + 1) 46 ≡ true → isAt s (p + 2) 46 ≡ false → step 0 (p + 2) ≡ expectAt s p 58
+  unfolding expectAt passed
+  dots-passed p e f g = rw (dots-here p e f g)
+
+  pub last-passed : (p b : ℕ) → isAt s p b ≡ true → oneOf signs b ≡ true → next 0 (p + 1) false ≡ nextAt s p b
+  unfolding nextAt nextOf
+  last-passed p b e g = rw (sign-here p b e g, eq-eqb b b refl)
+
+  -- a comma, where the sign that closes the list does not stand
+  pub comma-passed : (p b : ℕ) → isAt s p b ≡ false → isAt s p 44 ≡ true → next 0 (p + 1) true ≡ nextAt s p b
+  unfolding nextAt nextOf
+  comma-passed p b e f =
+      let x = stands p 44 f in
+      let y : eqb 44 b ≡ false = go (ltb p (length s)) (lt-ltb _ _ (x .0)) (ap (λ (n : ℕ). eqb n b) (x .1)) e in
+      rw (sign-here p 44 f refl, y)
+    where
+      go : (t : Bool) → t ≡ true → eqb (getD s p 0) b ≡ eqb 44 b → (t && eqb (getD s p 0) b) ≡ false → eqb 44 b ≡ false
+      go true h g e = sym g ∙ e
+      go false h g e = never h refl
+
+  -- ---- what was passed over
+
+  module _ (q n : ℕ) where
+    k : Token
+    k = tokenAt s q
+
+    module _ (r : Step) (e : r ≡ expectAt s q n) where
+      pub expect-yes : r .question ≡ 0 → (tokenAt s q .kind ≡ n) × (r .at ≡ tokenAt s q .end)
+      unfolding expectAt passed k
+      expect-yes z =
+          let x = go (eqb (k .kind) n) refl (ap (λ (r : Step). r .question) (sym e) ∙ z) in
+          (x .0, ap (λ (r : Step). r .at) e ∙ x .1)
+        where
+          go : (t : Bool) → eqb (k .kind) n ≡ t → cond t (step 0 (k .end)) (unexpectedAt k) .question ≡ 0
+              → (k .kind ≡ n) × (cond t (step 0 (k .end)) (unexpectedAt k) .at ≡ k .end)
+          go true f z = (eqb-true _ _ f, refl)
+          go false f z = absurd (eqb-false _ _ (no-zero k) z)
+
+      pub expect-no : (r .question ≡ 0 → ⊥) → (tokenAt s q .kind ≡ n → ⊥) × (r ≡ unexpectedAt (tokenAt s q))
+      unfolding expectAt passed k
+      expect-no z =
+          let x = go (eqb (k .kind) n) refl (λ y. z (ap (λ (r : Step). r .question) e ∙ y)) in
+          (x .0, e ∙ x .1)
+        where
+          go : (t : Bool) → eqb (k .kind) n ≡ t → (cond t (step 0 (k .end)) (unexpectedAt k) .question ≡ 0 → ⊥)
+              → (k .kind ≡ n → ⊥) × (cond t (step 0 (k .end)) (unexpectedAt k) ≡ unexpectedAt k)
+          go true f z = absurd (z refl)
+          go false f z = (eqb-false _ _ f, refl)
+
+    module _ (r : Next) (e : r ≡ nextAt s q n) where
+      answer : Bool → Bool → Next
+      answer t u = cond t (next 0 (k .end) false) (cond u (next 0 (k .end) true) (next (unexpectedAt k .question) (unexpectedAt k .at) false))
+
+      answered : r ≡ answer (eqb (k .kind) n) (eqb (k .kind) 44)
+      unfolding answer nextAt nextOf k
+      answered = e
+
+      pub next-no : (r .question ≡ 0 → ⊥)
+          → (tokenAt s q .kind ≡ n → ⊥) × (tokenAt s q .kind ≡ 44 → ⊥) × (step (r .question) (r .at) ≡ unexpectedAt (tokenAt s q))
+      unfolding answer k
+      next-no z = go (eqb (k .kind) n) refl (eqb (k .kind) 44) refl answered
+        where
+          go : (t : Bool) → eqb (k .kind) n ≡ t → (u : Bool) → eqb (k .kind) 44 ≡ u → r ≡ answer t u
+              → (k .kind ≡ n → ⊥) × (k .kind ≡ 44 → ⊥) × (step (r .question) (r .at) ≡ unexpectedAt k)
+          go true f u g e = absurd (z (ap (λ (r : Next). r .question) e))
+          go false f true g e = absurd (z (ap (λ (r : Next). r .question) e))
+          go false f false g e = (eqb-false _ _ f, eqb-false _ _ g, ap (λ (r : Next). step (r .question) (r .at)) e)
+
+      module _ (z : r .question ≡ 0) where
+        pub next-last : r .more ≡ false → (tokenAt s q .kind ≡ n) × (r .at ≡ tokenAt s q .end)
+        unfolding answer k
+        next-last m = go (eqb (k .kind) n) refl (eqb (k .kind) 44) answered
+          where
+            go : (t : Bool) → eqb (k .kind) n ≡ t → (u : Bool) → r ≡ answer t u → (k .kind ≡ n) × (r .at ≡ k .end)
+            go true f u e = (eqb-true _ _ f, ap (λ (r : Next). r .at) e)
+            go false f true e = never (ap (λ (r : Next). r .more) e) m
+            go false f false e = absurd (eqb-false _ _ (no-zero k) (ap (λ (r : Next). r .question) (sym e) ∙ z))
+
+        pub next-more : r .more ≡ true → (tokenAt s q .kind ≡ n → ⊥) × (tokenAt s q .kind ≡ 44) × (r .at ≡ tokenAt s q .end)
+        unfolding answer k
+        next-more m = go (eqb (k .kind) n) refl (eqb (k .kind) 44) refl answered
+          where
+            go : (t : Bool) → eqb (k .kind) n ≡ t → (u : Bool) → eqb (k .kind) 44 ≡ u → r ≡ answer t u
+                → (k .kind ≡ n → ⊥) × (k .kind ≡ 44) × (r .at ≡ k .end)
+            go true f u g e = never m (ap (λ (r : Next). r .more) e)
+            go false f true g e = (eqb-false _ _ f, eqb-true _ _ g, ap (λ (r : Next). r .at) e)
+            go false f false g e = never m (ap (λ (r : Next). r .more) e)

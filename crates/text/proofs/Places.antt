@@ -1,0 +1,78 @@
+-- A refusal's numbers are small: there are eight questions, and its place lies in the text, of which no more than 8,192 bytes are read.
+-- Assumes nothing.
+use mathlib.Core.Path.{_≡_, refl}
+use mathlib.Core.Bool.{Bool, true, false, cond}
+use mathlib.Core.List.{List, [], _∷_}
+use Prim.Native.Nat.{ℕ, zero, suc, _≤_, _<_, zero-le}
+use native.Mathlib.Omega.{arith}
+use lib.ListN.{length}
+use lib.Dec.{leb, eqb}
+use borrow.Author.Tests.{leb-true}
+use Rattle.text.specs.Building.{denied}
+use Rattle.text.specs.Token.{tokenAt, tokensFrom, tokens}
+use Rattle.text.specs.Reading.{State, Question, questions, firstNo, asked, taken, run, start, answered, reads}
+use Rattle.text.specs.declared.token.Token.{Token}
+use Rattle.text.specs.declared.Reading.{Reading}
+use Rattle.text.proofs.Span.{token-spans}
+
+abbrev Small : List (ℕ × Question) → Type 0
+Small [] = Unit {0}
+Small (q ∷ qs) = (q .0 ≤ 8) × Small qs
+
+place-within : (n : ℕ) (s : List ℕ) (p : ℕ) (st : State) → run s st (tokensFrom n s p) .at ≤ length s
+unfolding run tokensFrom denied
+place-within zero s p st = zero-le
+place-within (suc n) s p st = go (eqb (asked s st (tokenAt s p)) 0) (place-within n s (tokenAt s p .end) (taken s st (tokenAt s p)))
+  where
+    on : (b : Bool) → run s (taken s st (tokenAt s p)) (tokensFrom n s (tokenAt s p .end)) .at ≤ length s
+        → run s (taken s st (tokenAt s p)) (cond b [] (tokensFrom n s (tokenAt s p .end))) .at ≤ length s
+    on true h = zero-le
+    on false h = h
+
+    go : (b : Bool) → run s (taken s st (tokenAt s p)) (tokensFrom n s (tokenAt s p .end)) .at ≤ length s
+        → cond b (run s (taken s st (tokenAt s p)) (cond (eqb (tokenAt s p .kind) 0) [] (tokensFrom n s (tokenAt s p .end)))) (denied (asked s st (tokenAt s p)) (tokenAt s p .start)) .at
+        ≤ length s
+    go true h = on (eqb (tokenAt s p .kind) 0) h
+    go false h = let w = token-spans s p in omega (arith, w .forward, w .inside)
+
+-- a question's number is at most 8
+first-small : (qs : List (ℕ × Question)) (s : List ℕ) (st : State) (k : Token) → Small qs → firstNo qs s st k ≤ 8
+first-small [] s st k h = zero-le
+first-small (q ∷ qs) s st k h = go (q .1 s st k) (first-small qs s st k (h .1))
+  where
+    go : (b : Bool) → firstNo qs s st k ≤ 8 → cond b (firstNo qs s st k) (q .0) ≤ 8
+    go true l = l
+    go false l = h .0
+
+run-small : (s : List ℕ) (st : State) (ks : List Token) → run s st ks .question ≤ 8
+unfolding run denied asked
+run-small s st [] = zero-le
+run-small s st (k ∷ ks) = go (eqb (asked s st k) 0) (run-small s (taken s st k) ks)
+  where
+    go : (b : Bool) → run s (taken s st k) ks .question ≤ 8 → cond b (run s (taken s st k) ks) (denied (asked s st k) (k .start)) .question ≤ 8
+    go true l = l
+    go false l = first-small questions s st k (omega arith, (omega arith, (omega arith, (omega arith, (omega arith, (omega arith, (omega arith, tt)))))))
+
+pub question-small : (s : List ℕ) → answered s .question ≤ 8
+unfolding answered denied
+question-small s = go (leb (length s) 8192)
+  where
+    go : (b : Bool) → cond b (run s start (tokens s)) (denied 1 0) .question ≤ 8
+    go true = run-small s start (tokens s)
+    go false = omega arith
+
+pub place-small : (s : List ℕ) → answered s .at ≤ 8192
+unfolding answered tokens denied
+place-small s = go (leb (length s) 8192) refl
+  where
+    go : (b : Bool) → leb (length s) 8192 ≡ b → cond b (run s start (tokens s)) (denied 1 0) .at ≤ 8192
+    go true e = omega (arith, place-within (suc (length s)) s 0 start, leb-true (length s) 8192 e)
+    go false e = zero-le
+
+-- so 16 bits hold either
+pub small : (s : List ℕ) (r : Reading) → r ≡ reads s → (r .question < 65536) × (r .at < 65536)
+unfolding reads
+small s r e = rw e (go (question-small s) (place-small s))
+  where
+    go : answered s .question ≤ 8 → answered s .at ≤ 8192 → (answered s .question < 65536) × (answered s .at < 65536)
+    go q p = (omega arith, omega arith)
