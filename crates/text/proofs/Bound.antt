@@ -1,5 +1,5 @@
 -- One name more in scope: it is found, and so are those that were bound before it. Assumes nothing.
-use mathlib.Core.Path.{_≡_, refl, sym, _∙_}
+use mathlib.Core.Path.{_≡_, refl, _∙_}
 use mathlib.Core.Bool.{cond}
 use mathlib.Core.Option.{some}
 use Prim.Native.Nat.{ℕ, zero, suc, _+_, _-_, _/_, _%_, _≤_, _<_}
@@ -83,11 +83,11 @@ module _ (e : Env) (i x n : ℕ) (room : i < 16) (long : length e ≡ 49) where
       rw (stays (17 + j) (λ z. omega arith) (λ z. omega arith) (λ z. omega arith) (λ z. omega arith), stays (33 + j) (λ z. omega arith) (λ z. omega arith) (λ z. omega arith) (λ z. omega arith), stays (1 + j) (λ z. omega arith) (λ z. omega arith) (λ z. omega arith) (λ z. omega arith), below j y (le-of-lt h))
 
 module _ (e : Env) (x n : ℕ) (room : boundIn e < 16) (long : length e ≡ 49) where
-  pub bind-long : length (bind e x n) ≡ 49
+  bind-long : length (bind e x n) ≡ 49
   unfolding bind
   bind-long = at-long e (boundIn e) x n room long
 
-  pub bind-count : boundIn (bind e x n) ≡ boundIn e + 1
+  bind-count : boundIn (bind e x n) ≡ boundIn e + 1
   unfolding bind
   bind-count = at-count e (boundIn e) x n room long
 

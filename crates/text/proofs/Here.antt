@@ -3,7 +3,7 @@
 use mathlib.Core.Path.{_≡_, refl, sym, ap, _∙_}
 use mathlib.Core.Bool.{Bool, true, false, cond, _&&_}
 use mathlib.Core.List.{List}
-use Prim.Native.Nat.{ℕ, _+_, _-_, _≤_, _<_}
+use Prim.Native.Nat.{ℕ, _+_, _-_, _<_}
 use native.Mathlib.Omega.{arith}
 use lib.Dec.{eqb, ltb}
 use lib.ListN.{length, getD}
@@ -12,8 +12,6 @@ use Rattle.table.proofs.Lists.{both, never}
 use Rattle.text.specs.Token.{oneOf, signs, isSpace, isDot, classOf, runEnd, token, dotsAt, beginAt, tokenAt}
 use Rattle.text.specs.Recursive.{step, unexpectedAt, passed, expectAt, isAt, next, nextOf, nextAt}
 use Rattle.text.specs.declared.token.Token.{Token}
-use Rattle.text.specs.declared.token.Class.{Class}
-use Rattle.text.specs.declared.token.Class.the-variants.{Sign}
 use Rattle.text.specs.declared.step.Next.{Next}
 use Rattle.text.specs.declared.step.Step.{Step}
 use Rattle.text.proofs.Bytes.{sign-class}
@@ -31,7 +29,7 @@ module _ (s : List ℕ) where
   unfolding tokenAt
   begins p h e = rw (run-off isSpace s p h e, lt-leb (length s) p h)
 
-  pub sign-here : (p b : ℕ) → isAt s p b ≡ true → oneOf signs b ≡ true → tokenAt s p ≡ token b p (p + 1)
+  sign-here : (p b : ℕ) → isAt s p b ≡ true → oneOf signs b ≡ true → tokenAt s p ≡ token b p (p + 1)
   unfolding beginAt
   sign-here p b e g =
       let x = stands p b e in
@@ -57,13 +55,13 @@ module _ (s : List ℕ) where
       let x = stands p 46 e in
       begins p (x .0) (ap isSpace (x .1)) ∙ ap (λ b. beginAt s p (classOf b)) (x .1)
 
-  pub dot-here : (p : ℕ) → isAt s p 46 ≡ true → isAt s (p + 1) 46 ≡ false → tokenAt s p ≡ token 46 p (p + 1)
+  dot-here : (p : ℕ) → isAt s p 46 ≡ true → isAt s (p + 1) 46 ≡ false → tokenAt s p ≡ token 46 p (p + 1)
   unfolding dotsAt
   dot-here p e f =
       let n : p + 1 - p ≡ 1 = omega arith in
       dots-begin p e ∙ rw (dots-on p e, dots-off (p + 1) f, n)
 
-  pub dots-here : (p : ℕ) → isAt s p 46 ≡ true → isAt s (p + 1) 46 ≡ true → isAt s (p + 2) 46 ≡ false → tokenAt s p ≡ token 58 p (p + 2)
+  dots-here : (p : ℕ) → isAt s p 46 ≡ true → isAt s (p + 1) 46 ≡ true → isAt s (p + 2) 46 ≡ false → tokenAt s p ≡ token 58 p (p + 2)
   unfolding dotsAt
   dots-here p e f g =
       let n : p + 2 - p ≡ 2 = omega arith in

@@ -53,7 +53,7 @@ run-small s st (k ∷ ks) = go (eqb (asked s st k) 0) (run-small s (taken s st k
     go true l = l
     go false l = first-small questions s st k (omega arith, (omega arith, (omega arith, (omega arith, (omega arith, (omega arith, (omega arith, tt)))))))
 
-pub question-small : (s : List ℕ) → answered s .question ≤ 8
+question-small : (s : List ℕ) → answered s .question ≤ 8
 unfolding answered denied
 question-small s = go (leb (length s) 8192)
   where
