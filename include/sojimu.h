@@ -1,20 +1,21 @@
-/* Sojimu: verified session monitoring, for C and C++ on x86-64.
+/* Sojimu: verified session monitoring, for C and C++ on x86-64, which here means the System V ABI and ELF.
  *
  * A protocol is a session type, as a device sees it. A gateway reads its text into a table once (sojimu_read), keeps one state of
  * two bytes for each conversation (sojimu_fresh), and asks of every message whether it may pass (sojimu_step). Before
- * installation it may ask whether a described device fits (sojimu_fit). Link with libboundary.a.
+ * installation it may ask whether a described device fits (sojimu_fit). Link with libsojimu.a, and ask sojimu_matches() once.
  *
  * Every function of the library is proved to meet its contract for every input. What is proved ends at the calls below: this
  * header, which is C, is tested.
  *
  * What every call keeps:
- *   - No precondition on values: any table, any bytes and any code may be given, and what breaks the rules is refused by the
- *     number of a question. On a refusal nothing that was lent is changed, any table given back is empty and any count 0.
+ *   - No precondition on values: any table, any bytes and any number may be given, and what breaks the rules is refused by the
+ *     number of a question; a number that is too large is refused, never cut. On a refusal nothing that was lent is changed, any
+ *     table given back is empty and any count 0.
+ *   - Every byte of what is given back is determined: no struct here has padding.
  *   - No global state, no allocation, no lock, no call back, no input or output: calls may be made from any threads, as long as
- *     what one call writes (state, out, list) is in use by no other.
- *   - Pointers point to what they say, for the call's duration. The functions over columns and slices take no NULL, whatever the
- *     length; the inline functions over a table take NULL where the length or the room is 0. What a call writes overlaps nothing
- *     else that the call is given.
+ *     what one call writes (state, out, list) is in use by no other. Of the C library only memcpy and memset are called.
+ *   - Pointers point to what they say, for the call's duration. NULL is taken wherever the length or the room is 0. What a call
+ *     writes overlaps nothing else that the call is given.
  *
  * The questions, by number:
  *    1  Is the text at most 8,192 bytes long?
@@ -39,6 +40,10 @@
 #ifndef SOJIMU_H
 #define SOJIMU_H
 
+#if !defined(__x86_64__) || !defined(__ELF__)
+#error "sojimu: the library is for x86-64 with the System V ABI and ELF"
+#endif
+
 #include <stdbool.h>
 #include <stddef.h>
 #include <stdint.h>
@@ -52,16 +57,31 @@ extern "C" {
 
 /* ---- constants */
 
+/* This header's version: raised whenever a struct or a call changes. */
+#define SOJIMU_VERSION UINT32_C(1)
+
 /* Limits. A message has at most 285 bytes, a list that question 17 never refuses 1,024 entries, a buffer that holds every report
- * 16,384 bytes. */
+ * 16,384 bytes. As soon as SOJIMU_FRONT bytes are there, a message announces its length. */
 enum {
     SOJIMU_STATES = 32,
     SOJIMU_BRANCHES = 128,
     SOJIMU_FIELDS = 4,
     SOJIMU_TEXT = 8192,
+    SOJIMU_FRONT = 29,
     SOJIMU_MESSAGE = 285,
     SOJIMU_LIST = 1024,
     SOJIMU_REPORT = 16384
+};
+
+/* The stack in bytes that a call of the library needs at most, beside the place for a struct that it gives back, which is its
+ * caller's, and what memcpy and memset need. */
+enum {
+    SOJIMU_STACK_READ = 49152,
+    SOJIMU_STACK_REPORT = 81920,
+    SOJIMU_STACK_DUAL = 12288,
+    SOJIMU_STACK_FIT = 6144,
+    SOJIMU_STACK_TABLE = 1024, /* every other call that takes a table, a step among them */
+    SOJIMU_STACK_OTHER = 256   /* every other call */
 };
 
 /* A state's sort, in a table. */
@@ -94,35 +114,34 @@ enum { SOJIMU_ALL_LOW = 255 };
 /* ---- what calls take and give */
 
 /* A table: the first `states` sorts, and the first `branches` entries of owner (the state that a branch is of), target (the state
- * that it leads to), fields (their count) and label (the eight bytes as one number, high byte first, filled up with 0x00). Field f
- * of branch b stands at 4 * b + f: its kind, and the range of its number in offset form. What lies beyond is not looked at. */
+ * that it leads to), fields (their count) and the label's two words (its eight bytes, filled up with 0x00, high byte first).
+ * Field f of branch b stands at 4 * b + f: its kind, and the range of its number in offset form. What lies beyond is not looked
+ * at, and `reserved` never is; both are 0 in a table that was read. Any word may have any value: question 9 tells a table. */
 struct sojimu_table {
-    uint8_t states, branches;
-    uint8_t sort[32];
-    uint8_t owner[128], target[128], fields[128];
-    uint64_t label[128];
-    uint8_t kind[512];
-    uint32_t low[512], high[512];
+    uint32_t states, branches;
+    uint32_t sort[32];
+    uint32_t owner[128], target[128], fields[128];
+    uint32_t label_high[128], label_low[128];
+    uint32_t kind[512], low[512], high[512];
+    uint32_t reserved[130];
 };
 
 /* What reading a text gives: question 0 and its table, `at` 0; or the question that got a no, the place of its token, and the
  * empty table (all 0). */
 struct sojimu_reading {
-    uint8_t question;
-    size_t at;
+    uint32_t question, at;
     struct sojimu_table table;
 };
 
 /* The dual: question 0 and the table, or 9 and the empty table. */
 struct sojimu_turned {
-    uint8_t question;
+    uint32_t question;
     struct sojimu_table table;
 };
 
 /* What the front of some bytes tells: question 0 and the length that the message announces, or 13 or 14 and length 0. */
 struct sojimu_head {
-    uint8_t question;
-    size_t length;
+    uint32_t question, length;
 };
 
 /* A conversation's state. A standing that is none of the three codes counts as not running: question 10 refuses it, and it is
@@ -139,106 +158,128 @@ struct sojimu_verdict {
 
 /* The due part: the first `length` bytes of a side's waiting bytes. Length 0: nothing is due. */
 struct sojimu_due {
-    uint8_t side;
-    size_t length;
+    uint32_t side, length;
 };
 
-/* A made message: question 0 and its length, or 9, 18 or 16 and length 0. */
+/* A made message: question 0 and its length, or the question that got a no and length 0. */
 struct sojimu_made {
-    uint8_t question;
-    uint16_t length;
+    uint32_t question, length;
 };
 
-/* A fit check's answer. fits: `count` is the number of reachable pairs of states. fails: `count` is the number of moves shown, and
- * `high` the field that is high in the last, or SOJIMU_ALL_LOW. refused: `question` is 9 or 17. What does not apply is 0, of `high`
- * SOJIMU_ALL_LOW. */
+/* A fit check's answer. fits: `count` is the number of reachable pairs of states. fails: `count` is the number of moves shown,
+ * and `high` the field that is high in the last, or SOJIMU_ALL_LOW. refused: `question` is 9 or 17. What does not apply is 0, of
+ * `high` SOJIMU_ALL_LOW. */
 struct sojimu_fit {
-    uint8_t outcome, question;
-    uint16_t count;
-    uint8_t high;
+    uint32_t outcome, question, count, high;
 };
 
-SOJIMU_HOLDS(sizeof(bool) == 1);
-SOJIMU_HOLDS(sizeof(size_t) == 8);
-SOJIMU_HOLDS(sizeof(void *) == 8);
+SOJIMU_HOLDS(sizeof(bool) == 1 && sizeof(size_t) == 8 && sizeof(void *) == 8);
 
-SOJIMU_HOLDS(sizeof(struct sojimu_table) == 6056);
-SOJIMU_HOLDS(offsetof(struct sojimu_table, states) == 0);
-SOJIMU_HOLDS(offsetof(struct sojimu_table, branches) == 1);
-SOJIMU_HOLDS(offsetof(struct sojimu_table, sort) == 2);
-SOJIMU_HOLDS(offsetof(struct sojimu_table, owner) == 34);
-SOJIMU_HOLDS(offsetof(struct sojimu_table, target) == 162);
-SOJIMU_HOLDS(offsetof(struct sojimu_table, fields) == 290);
-SOJIMU_HOLDS(offsetof(struct sojimu_table, label) == 424);
-SOJIMU_HOLDS(offsetof(struct sojimu_table, kind) == 1448);
-SOJIMU_HOLDS(offsetof(struct sojimu_table, low) == 1960);
-SOJIMU_HOLDS(offsetof(struct sojimu_table, high) == 4008);
-
-SOJIMU_HOLDS(sizeof(struct sojimu_reading) == 6072);
-SOJIMU_HOLDS(offsetof(struct sojimu_reading, question) == 0);
-SOJIMU_HOLDS(offsetof(struct sojimu_reading, at) == 8);
-SOJIMU_HOLDS(offsetof(struct sojimu_reading, table) == 16);
-
-SOJIMU_HOLDS(sizeof(struct sojimu_turned) == 6064);
-SOJIMU_HOLDS(offsetof(struct sojimu_turned, question) == 0);
-SOJIMU_HOLDS(offsetof(struct sojimu_turned, table) == 8);
-
-SOJIMU_HOLDS(sizeof(struct sojimu_head) == 16);
-SOJIMU_HOLDS(offsetof(struct sojimu_head, question) == 0);
-SOJIMU_HOLDS(offsetof(struct sojimu_head, length) == 8);
-
-SOJIMU_HOLDS(sizeof(struct sojimu_state) == 2);
-SOJIMU_HOLDS(offsetof(struct sojimu_state, position) == 0);
-SOJIMU_HOLDS(offsetof(struct sojimu_state, standing) == 1);
-
-SOJIMU_HOLDS(sizeof(struct sojimu_verdict) == 5);
-SOJIMU_HOLDS(offsetof(struct sojimu_verdict, outcome) == 0);
-SOJIMU_HOLDS(offsetof(struct sojimu_verdict, question) == 1);
-SOJIMU_HOLDS(offsetof(struct sojimu_verdict, party) == 2);
-SOJIMU_HOLDS(offsetof(struct sojimu_verdict, reason) == 3);
-SOJIMU_HOLDS(offsetof(struct sojimu_verdict, field) == 4);
-
-SOJIMU_HOLDS(sizeof(struct sojimu_due) == 16);
-SOJIMU_HOLDS(offsetof(struct sojimu_due, side) == 0);
-SOJIMU_HOLDS(offsetof(struct sojimu_due, length) == 8);
-
-SOJIMU_HOLDS(sizeof(struct sojimu_made) == 4);
-SOJIMU_HOLDS(offsetof(struct sojimu_made, question) == 0);
-SOJIMU_HOLDS(offsetof(struct sojimu_made, length) == 2);
-
-SOJIMU_HOLDS(sizeof(struct sojimu_fit) == 6);
-SOJIMU_HOLDS(offsetof(struct sojimu_fit, outcome) == 0);
-SOJIMU_HOLDS(offsetof(struct sojimu_fit, question) == 1);
-SOJIMU_HOLDS(offsetof(struct sojimu_fit, count) == 2);
-SOJIMU_HOLDS(offsetof(struct sojimu_fit, high) == 4);
-
+#define SOJIMU_AT(name, member, place) (offsetof(struct sojimu_##name, member) == (place))
+SOJIMU_HOLDS(sizeof(struct sojimu_table) == 4 * 2340 && SOJIMU_AT(table, states, 0) && SOJIMU_AT(table, branches, 4 * 1));
+SOJIMU_HOLDS(SOJIMU_AT(table, sort, 4 * 2) && SOJIMU_AT(table, owner, 4 * 34) && SOJIMU_AT(table, target, 4 * 162));
+SOJIMU_HOLDS(SOJIMU_AT(table, fields, 4 * 290) && SOJIMU_AT(table, label_high, 4 * 418) && SOJIMU_AT(table, label_low, 4 * 546));
+SOJIMU_HOLDS(SOJIMU_AT(table, kind, 4 * 674) && SOJIMU_AT(table, low, 4 * 1186) && SOJIMU_AT(table, high, 4 * 1698));
+SOJIMU_HOLDS(SOJIMU_AT(table, reserved, 4 * 2210));
+SOJIMU_HOLDS(sizeof(struct sojimu_reading) == 9368 && SOJIMU_AT(reading, question, 0) && SOJIMU_AT(reading, at, 4));
+SOJIMU_HOLDS(SOJIMU_AT(reading, table, 8));
+SOJIMU_HOLDS(sizeof(struct sojimu_turned) == 9364 && SOJIMU_AT(turned, question, 0) && SOJIMU_AT(turned, table, 4));
+SOJIMU_HOLDS(sizeof(struct sojimu_head) == 8 && SOJIMU_AT(head, question, 0) && SOJIMU_AT(head, length, 4));
+SOJIMU_HOLDS(sizeof(struct sojimu_state) == 2 && SOJIMU_AT(state, position, 0) && SOJIMU_AT(state, standing, 1));
+SOJIMU_HOLDS(sizeof(struct sojimu_verdict) == 5 && SOJIMU_AT(verdict, outcome, 0) && SOJIMU_AT(verdict, question, 1));
+SOJIMU_HOLDS(SOJIMU_AT(verdict, party, 2) && SOJIMU_AT(verdict, reason, 3) && SOJIMU_AT(verdict, field, 4));
+SOJIMU_HOLDS(sizeof(struct sojimu_due) == 8 && SOJIMU_AT(due, side, 0) && SOJIMU_AT(due, length, 4));
+SOJIMU_HOLDS(sizeof(struct sojimu_made) == 8 && SOJIMU_AT(made, question, 0) && SOJIMU_AT(made, length, 4));
+SOJIMU_HOLDS(sizeof(struct sojimu_fit) == 16 && SOJIMU_AT(fit, outcome, 0) && SOJIMU_AT(fit, question, 4));
+SOJIMU_HOLDS(SOJIMU_AT(fit, count, 8) && SOJIMU_AT(fit, high, 12));
+#undef SOJIMU_AT
 #undef SOJIMU_HOLDS
+
+/* ---- the library's calls over slices
+ *
+ * These alone take no NULL. Each has an inline function without `raw` below, where it is explained. */
+
+struct sojimu_reading sojimu_raw_read(const uint8_t *text, size_t length);
+size_t sojimu_raw_report(const uint8_t *protocol, size_t protocol_length, const uint8_t *device, size_t device_length,
+                         uint8_t *out, size_t room);
+struct sojimu_head sojimu_raw_front(const uint8_t *bytes, size_t length);
+bool sojimu_raw_broken(const uint8_t *bytes, size_t length);
+uint32_t sojimu_raw_refusal(const uint8_t *bytes, size_t length);
+uint64_t sojimu_raw_label_word(const uint8_t *bytes, size_t length);
+bool sojimu_raw_has_label(const uint8_t *bytes, size_t length, uint64_t label);
+uint32_t sojimu_raw_number(const uint8_t *bytes, size_t length, size_t at);
+size_t sojimu_raw_first_length(const uint8_t *bytes, size_t length);
+struct sojimu_made sojimu_raw_make(const struct sojimu_table *table, uint32_t branch, uint32_t named, uint8_t *out, size_t room);
+struct sojimu_verdict sojimu_raw_step(const struct sojimu_table *table, struct sojimu_state *state, uint32_t side,
+                                      const uint8_t *message, size_t length, uint8_t *out, size_t room);
+struct sojimu_due sojimu_raw_due(const struct sojimu_table *table, struct sojimu_state state, const uint8_t *device,
+                                 size_t device_length, const uint8_t *host, size_t host_length);
+struct sojimu_fit sojimu_raw_fit(const struct sojimu_table *device, const struct sojimu_table *protocol, uint16_t *list,
+                                 size_t room);
+
+/* What is lent for `given`: where there is nothing, a place at which nothing is read or written. */
+static inline uint8_t *sojimu_lent(const void *given, size_t length)
+{
+    static const uint64_t nothing = 0;
+    return (uint8_t *)(uintptr_t)(length == 0 ? &nothing : given);
+}
+
+/* ---- the version */
+
+/* SOJIMU_VERSION of the header that belongs to the archive. */
+uint32_t sojimu_version(void);
+
+/* Whether this header and the archive belong together. */
+static inline bool sojimu_matches(void)
+{
+    return sojimu_version() == SOJIMU_VERSION;
+}
 
 /* ---- texts and tables */
 
 /* Reads a protocol text, which need not end in 0x00. Asks 1, then of each token from the left 2 to 8. */
-struct sojimu_reading sojimu_read(const uint8_t *text, size_t length);
+static inline struct sojimu_reading sojimu_read(const uint8_t *text, size_t length)
+{
+    return sojimu_raw_read(sojimu_lent(text, length), length);
+}
 
 /* The report on a device's text against a protocol's: whether it fits, the moves that show it where it does not, or which text is
  * refused. Its bytes open `out`, the rest of which is unchanged, and its length is the answer. Where `out` does not hold it, the
  * answer is 0 and `out` is unchanged; SOJIMU_REPORT bytes always do. */
-size_t sojimu_report(const uint8_t *protocol, size_t protocol_length, const uint8_t *device, size_t device_length, uint8_t *out,
-                     size_t room);
+static inline size_t sojimu_report(const uint8_t *protocol, size_t protocol_length, const uint8_t *device, size_t device_length,
+                                   uint8_t *out, size_t room)
+{
+    return sojimu_raw_report(sojimu_lent(protocol, protocol_length), protocol_length, sojimu_lent(device, device_length),
+                             device_length, sojimu_lent(out, room), room);
+}
+
+/* Question 9: is the table sound? */
+bool sojimu_sound(const struct sojimu_table *table);
 
 /* Question 9 where a position is given with the table: is it sound, and the position one of its states? */
-bool sojimu_sound_at(struct sojimu_table table, uint8_t position);
+bool sojimu_sound_at(const struct sojimu_table *table, uint32_t position);
 
 /* The table that a refusal gives back: all 0. It is not sound. */
 struct sojimu_table sojimu_empty(void);
 
 /* The dual: sending and receiving exchanged. Asks 9. */
-struct sojimu_turned sojimu_dual(struct sojimu_table table);
+struct sojimu_turned sojimu_dual(const struct sojimu_table *table);
 
 /* Whether a table may have this label (eight bytes as one number, high byte first). */
 bool sojimu_label_legal(uint64_t label);
 
 /* Whether a table may have a field of this kind with this range, both ends in offset form. */
-bool sojimu_range_legal(uint8_t kind, uint32_t low, uint32_t high);
+bool sojimu_range_legal(uint32_t kind, uint32_t low, uint32_t high);
+
+/* The label that a C string spells, as one number; 0 where it is no legal label. */
+static inline uint64_t sojimu_label(const char *name)
+{
+    uint64_t label = 0;
+    int i;
+    for (i = 0; i < 8 && *name != 0; i++)
+        label |= (uint64_t)(uint8_t)*name++ << (56 - 8 * i);
+    return *name == 0 && sojimu_label_legal(label) ? label : 0;
+}
 
 /* ---- messages
  *
@@ -246,109 +287,134 @@ bool sojimu_range_legal(uint8_t kind, uint32_t low, uint32_t high);
  * complement, high byte first), then the texts' bytes in field order. */
 
 /* 13 and 14 of bytes that may go on after the message or stop within it. */
-struct sojimu_head sojimu_front(const uint8_t *bytes, size_t length);
+static inline struct sojimu_head sojimu_front(const uint8_t *bytes, size_t length)
+{
+    return sojimu_raw_front(sojimu_lent(bytes, length), length);
+}
+
+/* Whether nothing that follows makes a message of these bytes: nine are there without a legal label and a count of at most 4, or
+ * 14 refuses. From SOJIMU_FRONT bytes on, bytes are broken or announce their length. */
+static inline bool sojimu_broken(const uint8_t *bytes, size_t length)
+{
+    return sojimu_raw_broken(sojimu_lent(bytes, length), length);
+}
 
 /* The first of 13, 14 and 15 that refuses a message, or 0. */
-uint8_t sojimu_refusal(const uint8_t *bytes, size_t length);
+static inline uint32_t sojimu_refusal(const uint8_t *bytes, size_t length)
+{
+    return sojimu_raw_refusal(sojimu_lent(bytes, length), length);
+}
 
-/* The first eight bytes as a table has a label; 0 where there are fewer. */
-uint64_t sojimu_label_word(const uint8_t *bytes, size_t length);
+/* The first eight bytes as one number, high byte first; 0 where there are fewer. */
+static inline uint64_t sojimu_label_word(const uint8_t *bytes, size_t length)
+{
+    return sojimu_raw_label_word(sojimu_lent(bytes, length), length);
+}
 
 /* Whether there are eight bytes and they are this label. */
-bool sojimu_has_label(const uint8_t *bytes, size_t length, uint64_t label);
+static inline bool sojimu_has_label(const uint8_t *bytes, size_t length, uint64_t label)
+{
+    return sojimu_raw_has_label(sojimu_lent(bytes, length), length, label);
+}
 
 /* The number in offset form whose four bytes stand at a place; 0 where they do not all stand there. */
-uint32_t sojimu_number(const uint8_t *bytes, size_t length, size_t at);
+static inline uint32_t sojimu_number(const uint8_t *bytes, size_t length, size_t at)
+{
+    return sojimu_raw_number(sojimu_lent(bytes, length), length, at);
+}
 
 /* How long the first message of some waiting bytes is; 0 when 13 or 14 refuses or it is not all there. */
-size_t sojimu_first_length(const uint8_t *bytes, size_t length);
+static inline size_t sojimu_first_length(const uint8_t *bytes, size_t length)
+{
+    return sojimu_raw_first_length(sojimu_lent(bytes, length), length);
+}
+
+/* Makes the message of a branch: every number low, or the one in field `named` high (SOJIMU_ALL_LOW: none), texts filled with
+ * 0x20. It opens `out`, the rest of which is unchanged. Asks 9, 18, 16. */
+static inline struct sojimu_made sojimu_make(const struct sojimu_table *table, uint32_t branch, uint32_t named, uint8_t *out,
+                                             size_t room)
+{
+    return sojimu_raw_make(table, branch, named, sojimu_lent(out, room), room);
+}
+
+/* A field for sojimu_encode: its kind, the four bytes of its number, and of a text its bytes. */
+struct sojimu_field {
+    uint32_t kind, number;
+    const uint8_t *text;
+};
+
+static inline struct sojimu_field sojimu_int(int32_t value)
+{
+    const struct sojimu_field field = {SOJIMU_KIND_INT, (uint32_t)value, NULL};
+    return field;
+}
+
+/* More than 64 bytes are too many, however many they are. */
+static inline struct sojimu_field sojimu_text(const void *bytes, size_t length)
+{
+    const struct sojimu_field field = {SOJIMU_KIND_TEXT, (uint32_t)(length < 65 ? length : 65), (const uint8_t *)bytes};
+    return field;
+}
+
+static inline struct sojimu_field sojimu_flag(bool value)
+{
+    const struct sojimu_field field = {SOJIMU_KIND_FLAG, value, NULL};
+    return field;
+}
+
+/* A number's last bytes, high byte first. */
+static inline void sojimu_put(uint8_t *out, uint64_t number, size_t length)
+{
+    for (; length > 0; number >>= 8)
+        out[--length] = (uint8_t)(number & 255);
+}
+
+/* Any message: a label and up to four fields. It opens `out`, the rest of which is unchanged. Asks 13 of the label and the count,
+ * 14 of the fields (of a text that it has at most 64 bytes), 16. */
+static inline struct sojimu_made sojimu_encode(uint64_t label, const struct sojimu_field *fields, size_t count, uint8_t *out,
+                                               size_t room)
+{
+    struct sojimu_made made = {13, 0};
+    struct sojimu_head head;
+    uint8_t front[SOJIMU_FRONT];
+    size_t f, i, at = 9 + 5 * count;
+    if (count > SOJIMU_FIELDS)
+        return made;
+    sojimu_put(front, label, 8);
+    sojimu_put(front + 8, count, 1);
+    for (f = 0; f < count; f++) {
+        sojimu_put(front + 9 + f, fields[f].kind < 255 ? fields[f].kind : 255, 1);
+        sojimu_put(front + 9 + count + 4 * f, fields[f].number, 4);
+    }
+    head = sojimu_raw_front(front, at);
+    made.question = head.question == 0 && room < head.length ? 16 : head.question;
+    if (made.question != 0)
+        return made;
+    made.length = head.length;
+    for (i = 0; i < at; i++)
+        out[i] = front[i];
+    for (f = 0; f < count; f++)
+        for (i = 0; fields[f].kind == SOJIMU_KIND_TEXT && i < fields[f].number; i++)
+            out[at++] = fields[f].text[i];
+    return made;
+}
 
 /* ---- the monitor */
 
 /* The state of a conversation that begins: position 0, running. */
 struct sojimu_state sojimu_fresh(void);
 
-/* ---- calls over the columns of a table
- *
- * The library's calls take a table's columns where they stand, so that nothing is copied. The inline functions below lend the
- * columns of a struct sojimu_table; each is explained there. */
+/* Whose turn it is: SOJIMU_DEVICE, SOJIMU_HOST, or SOJIMU_NOBODY when 9, 10 or 11 would refuse. */
+uint8_t sojimu_turn(const struct sojimu_table *table, struct sojimu_state state);
 
-bool sojimu_columns_sound(uint8_t states, uint8_t branches, const uint8_t sort[32], const uint8_t owner[128],
-                          const uint8_t target[128], const uint8_t fields[128], const uint64_t label[128],
-                          const uint8_t kind[512], const uint32_t low[512], const uint32_t high[512]);
-
-struct sojimu_made sojimu_columns_make(uint8_t states, uint8_t branches, const uint8_t sort[32], const uint8_t owner[128],
-                                       const uint8_t target[128], const uint8_t fields[128], const uint64_t label[128],
-                                       const uint8_t kind[512], const uint32_t low[512], const uint32_t high[512],
-                                       uint16_t branch, uint8_t named, uint8_t *out, size_t room);
-
-struct sojimu_verdict sojimu_columns_step(uint8_t states, uint8_t branches, const uint8_t sort[32], const uint8_t owner[128],
-                                          const uint8_t target[128], const uint8_t fields[128], const uint64_t label[128],
-                                          const uint8_t kind[512], const uint32_t low[512], const uint32_t high[512],
-                                          uint8_t state[2], uint8_t side, const uint8_t *message, size_t length,
-                                          uint8_t *out, size_t room);
-
-uint8_t sojimu_columns_turn(uint8_t states, uint8_t branches, const uint8_t sort[32], const uint8_t owner[128],
-                            const uint8_t target[128], const uint8_t fields[128], const uint64_t label[128],
-                            const uint8_t kind[512], const uint32_t low[512], const uint32_t high[512],
-                            struct sojimu_state state);
-
-struct sojimu_due sojimu_columns_due(uint8_t states, uint8_t branches, const uint8_t sort[32], const uint8_t owner[128],
-                                     const uint8_t target[128], const uint8_t fields[128], const uint64_t label[128],
-                                     const uint8_t kind[512], const uint32_t low[512], const uint32_t high[512],
-                                     struct sojimu_state state, const uint8_t *device, size_t device_length,
-                                     const uint8_t *host, size_t host_length);
-
-struct sojimu_fit sojimu_columns_fit(uint8_t dstates, uint8_t dbranches, const uint8_t dsort[32], const uint8_t downer[128],
-                                     const uint8_t dtarget[128], const uint8_t dfields[128], const uint64_t dlabel[128],
-                                     const uint8_t dkind[512], const uint32_t dlow[512], const uint32_t dhigh[512],
-                                     uint8_t pstates, uint8_t pbranches, const uint8_t psort[32], const uint8_t powner[128],
-                                     const uint8_t ptarget[128], const uint8_t pfields[128], const uint64_t plabel[128],
-                                     const uint8_t pkind[512], const uint32_t plow[512], const uint32_t phigh[512],
-                                     uint16_t *list, size_t room);
-
-/* ---- calls over a table */
-
-/* Question 9: is the table sound? */
-static inline bool sojimu_sound(const struct sojimu_table *t)
-{
-    return sojimu_columns_sound(t->states, t->branches, t->sort, t->owner, t->target, t->fields, t->label, t->kind, t->low,
-                                t->high);
-}
-
-/* Makes the message of a branch: every number low, or the one in field `named` high (SOJIMU_ALL_LOW: none), texts filled with
- * 0x20. It opens `out`, the rest of which is unchanged. Asks 9, 18, 16; on a refusal `out` is unchanged. */
-static inline struct sojimu_made sojimu_make(const struct sojimu_table *t, uint16_t branch, uint8_t named, uint8_t *out,
-                                             size_t room)
-{
-    uint8_t none = 0;
-    return sojimu_columns_make(t->states, t->branches, t->sort, t->owner, t->target, t->fields, t->label, t->kind, t->low,
-                               t->high, branch, named, room == 0 ? &none : out, room);
-}
-
-/* One step. `side` says who sends the message; any code but SOJIMU_DEVICE and SOJIMU_HOST is no side's turn. Asks 9, 10, 11, 12,
- * 13, 14, 15, 16; on a refusal state and `out` are unchanged. Else the message is judged against the position's branches. If one
- * allows it, it is forwarded: its bytes open `out`, the rest of which is unchanged, and the position moves on. If none does, the
- * sender is blamed, for ever: the standing says so, and position and `out` are unchanged. */
-static inline struct sojimu_verdict sojimu_step(const struct sojimu_table *t, struct sojimu_state *state, uint8_t side,
+/* One step. `side` says who sends the message; any number but SOJIMU_DEVICE and SOJIMU_HOST is no side's turn. Asks 9, 10, 11,
+ * 12, 13, 14, 15, 16; on a refusal state and `out` are unchanged. Else the message is judged against the position's branches. If
+ * one allows it, it is forwarded: its bytes open `out`, the rest of which is unchanged, and the position moves on. If none does,
+ * the sender is blamed, for ever: the standing says so, and position and `out` are unchanged. */
+static inline struct sojimu_verdict sojimu_step(const struct sojimu_table *table, struct sojimu_state *state, uint32_t side,
                                                 const uint8_t *message, size_t length, uint8_t *out, size_t room)
 {
-    const uint8_t nothing = 0;
-    uint8_t none = 0;
-    uint8_t bytes[2] = {state->position, state->standing};
-    const struct sojimu_verdict verdict =
-        sojimu_columns_step(t->states, t->branches, t->sort, t->owner, t->target, t->fields, t->label, t->kind, t->low, t->high,
-                            bytes, side, length == 0 ? &nothing : message, length, room == 0 ? &none : out, room);
-    state->position = bytes[0];
-    state->standing = bytes[1];
-    return verdict;
-}
-
-/* Whose turn it is: SOJIMU_DEVICE, SOJIMU_HOST, or SOJIMU_NOBODY when 9, 10 or 11 would refuse. */
-static inline uint8_t sojimu_turn(const struct sojimu_table *t, struct sojimu_state state)
-{
-    return sojimu_columns_turn(t->states, t->branches, t->sort, t->owner, t->target, t->fields, t->label, t->kind, t->low,
-                               t->high, state);
+    return sojimu_raw_step(table, state, side, sojimu_lent(message, length), length, sojimu_lent(out, room), room);
 }
 
 /* The next two functions have the names of the structs that they return, as `stat` has. C++ allows that, and g++ warns of it. */
@@ -357,30 +423,25 @@ static inline uint8_t sojimu_turn(const struct sojimu_table *t, struct sojimu_st
 #pragma GCC diagnostic ignored "-Wshadow"
 #endif
 
-/* The due message, from the bytes that wait on either side: the first message of the side whose turn it is. Length 0 when 13 or 14
- * would refuse or the message is not all there; side SOJIMU_DEVICE and length 0 when 9, 10 or 11 would. This call alone carries no
- * number. */
-static inline struct sojimu_due sojimu_due(const struct sojimu_table *t, struct sojimu_state state, const uint8_t *device,
+/* The due message, from the bytes that wait on either side: the first message of the side whose turn it is. Length 0 when 13 or
+ * 14 would refuse or the message is not all there; side SOJIMU_DEVICE and length 0 when 9, 10 or 11 would. This call alone
+ * carries no number. */
+static inline struct sojimu_due sojimu_due(const struct sojimu_table *table, struct sojimu_state state, const uint8_t *device,
                                            size_t device_length, const uint8_t *host, size_t host_length)
 {
-    const uint8_t nothing = 0;
-    return sojimu_columns_due(t->states, t->branches, t->sort, t->owner, t->target, t->fields, t->label, t->kind, t->low,
-                              t->high, state, device_length == 0 ? &nothing : device, device_length,
-                              host_length == 0 ? &nothing : host, host_length);
+    return sojimu_raw_due(table, state, sojimu_lent(device, device_length), device_length, sojimu_lent(host, host_length),
+                          host_length);
 }
 
-/* Whether a described device fits a protocol: no list of moves ends with the device blamed or the two stuck. Asks 9 of the device,
- * 9 of the protocol, 17 of the list (1,024 entries are always enough). Where it fails, the list begins with the fewest moves that
- * show it, each the speaker's branch number (the device's table for the device, the protocol's for the host), every number low, in
- * the last move one field perhaps high; the rest of the list is unchanged. Where it fits or is refused, the whole list is. */
+/* Whether a described device fits a protocol: no list of moves ends with the device blamed or the two stuck. Asks 9 of the
+ * device, 9 of the protocol, 17 of the list (1,024 entries are always enough). Where it fails, the list begins with the fewest
+ * moves that show it, each the speaker's branch number (the device's table for the device, the protocol's for the host), every
+ * number low, in the last move one field perhaps high; the rest of the list is unchanged. Where it fits or is refused, the whole
+ * list is. */
 static inline struct sojimu_fit sojimu_fit(const struct sojimu_table *device, const struct sojimu_table *protocol, uint16_t *list,
                                            size_t room)
 {
-    uint16_t none = 0;
-    return sojimu_columns_fit(device->states, device->branches, device->sort, device->owner, device->target, device->fields,
-                              device->label, device->kind, device->low, device->high, protocol->states, protocol->branches,
-                              protocol->sort, protocol->owner, protocol->target, protocol->fields, protocol->label,
-                              protocol->kind, protocol->low, protocol->high, room == 0 ? &none : list, room);
+    return sojimu_raw_fit(device, protocol, (uint16_t *)(void *)sojimu_lent(list, room), room);
 }
 
 #if defined(__cplusplus) && defined(__GNUC__)

@@ -1,10 +1,10 @@
-//! Finds the static library of the proved code, `libboundary.a`, and links it.
+//! Finds the static library of the proved code, `libsojimu.a`, and links it.
 
 use std::env;
 use std::path::{Path, PathBuf};
 use std::process::exit;
 
-const ARCHIVE: &str = "libboundary.a";
+const ARCHIVE: &str = "libsojimu.a";
 
 fn main() {
     println!("cargo::rerun-if-env-changed=SOJIMU_LIB_DIR");
@@ -17,11 +17,11 @@ fn main() {
     println!("cargo::rerun-if-changed={}", archive.display());
     let Ok(found) = archive.canonicalize() else {
         eprintln!("{} is missing.", archive.display());
-        eprintln!("Run `rt staticlib boundary` in the repository, or name the directory of {ARCHIVE} in SOJIMU_LIB_DIR.");
+        eprintln!("Run `rt staticlib sojimu` in the repository, or name the directory of {ARCHIVE} in SOJIMU_LIB_DIR.");
         exit(1);
     };
     let directory = found.parent().unwrap_or(&directory);
     println!("cargo::rustc-link-search=native={}", directory.display());
-    println!("cargo::rustc-link-lib=static=boundary");
+    println!("cargo::rustc-link-lib=static=sojimu");
     println!("cargo::rustc-env=SOJIMU_ARCHIVE={}", found.display());
 }

@@ -1,22 +1,27 @@
 //! A gateway in small: one device, one host, and the bytes that come from either.
 
-use sojimu::{message, Fitting, Party, Question, Standing, State, Table, Verdict};
+use sojimu::{message, Fitting, Party, Standing, State, Table, Verdict, LONGEST_LIST, LONGEST_MESSAGE};
 use std::io::{self, Write};
 
 const PROTOCOL: &[u8] = b"rec X.+{!Ask(int[0..100]).&{?Ok().X},!Quit().end}";
 const DEVICE: &[u8] = b"rec X.+{!Ask(int[0..50]).&{?Ok().X,?Busy().X}}";
 const OTHER: &[u8] = b"rec X.+{!Ask(int[0..200]).&{?Ok().X}}";
 
-/// The longest message.
-const LONGEST: usize = 285;
-/// Label, field count and arrays of any message.
-const LONGEST_FRONT: usize = 29;
-
-/// One conversation: its state, and the bytes that wait on either side.
-struct Conversation {
+/// One conversation: its state, and the bytes that wait on either side. Room for the longest message is enough.
+#[derive(Default)]
+pub struct Conversation {
     state: State,
     device: Vec<u8>,
     host: Vec<u8>,
+}
+
+impl Conversation {
+    fn waiting(&mut self, side: Party) -> &mut Vec<u8> {
+        match side {
+            Party::Device => &mut self.device,
+            Party::Host => &mut self.host,
+        }
+    }
 }
 
 fn main() -> io::Result<()> {
@@ -24,6 +29,7 @@ fn main() -> io::Result<()> {
 }
 
 pub fn run(log: &mut dyn Write) -> io::Result<()> {
+    assert!(sojimu::matches(), "the archive is of another version");
     // Texts are read once, when the gateway starts.
     if let Err(no) = Table::read(b"rec X.X") {
         writeln!(log, "text refused {} at {}", no.question.0, no.at)?;
@@ -35,22 +41,22 @@ pub fn run(log: &mut dyn Write) -> io::Result<()> {
     if !fits(&device, &protocol, log)? {
         return Ok(());
     }
-    let mut talk = Conversation { state: State::fresh(), device: vec![], host: vec![] };
     // The host is early, and the device's first message comes in two pieces.
-    talk.host.extend(b"Ok\0\0\0\0\0\0\0");
-    talk.device.extend(b"Ask\0\0\0\0\0\x01\0");
-    pump(&protocol, &mut talk, log)?;
-    talk.device.extend(b"\0\0\0\x07");
-    pump(&protocol, &mut talk, log)?;
-    talk.device.extend(b"Ask\0\0\0\0\0\x01\0\0\0\0\x65");
-    pump(&protocol, &mut talk, log)?;
+    let mut talk = Conversation::default();
+    hear(&protocol, &mut talk, Party::Host, b"Ok\0\0\0\0\0\0\0", log)?;
+    hear(&protocol, &mut talk, Party::Device, b"Ask\0\0\0\0\0\x01\0", log)?;
+    hear(&protocol, &mut talk, Party::Device, b"\0\0\0\x07", log)?;
+    assert!(!hear(&protocol, &mut talk, Party::Device, b"Ask\0\0\0\0\0\x01\0\0\0\0\x65", log)?);
     assert_eq!(talk.state.standing, Standing::DEVICE_BLAMED);
+    // A device that speaks another language.
+    let mut strange = Conversation::default();
+    assert!(!hear(&protocol, &mut strange, Party::Device, b"GET / HTTP/1.1\r\n", log)?);
     Ok(())
 }
 
 /// Before installation: does the described device fit?
 fn fits(device: &Table, protocol: &Table, log: &mut dyn Write) -> io::Result<bool> {
-    let mut list = [0; 1024];
+    let mut list = [0; LONGEST_LIST];
     match device.fit(protocol, &mut list) {
         Fitting::Fits { pairs } => writeln!(log, "fits, {pairs} pairs")?,
         Fitting::Refused(question) => {
@@ -72,19 +78,43 @@ fn fits(device: &Table, protocol: &Table, log: &mut dyn Write) -> io::Result<boo
     Ok(true)
 }
 
+/// A line has bytes: takes them and passes on what is due, until all are taken. Says whether the conversation goes on.
+pub fn hear(protocol: &Table, talk: &mut Conversation, side: Party, bytes: &[u8], log: &mut dyn Write) -> io::Result<bool> {
+    let mut rest = bytes;
+    while !rest.is_empty() {
+        let taken = receive(talk, side, rest);
+        if taken == 0 {
+            writeln!(log, "too much from {side:?}")?;
+            return Ok(false);
+        }
+        if !pump(protocol, talk, log)? {
+            return Ok(false);
+        }
+        rest = &rest[taken..];
+    }
+    Ok(true)
+}
+
+/// Bytes have come from a side. Takes what there is room for, and says how many that were: the others are still the caller's.
+fn receive(talk: &mut Conversation, side: Party, bytes: &[u8]) -> usize {
+    let waiting = talk.waiting(side);
+    let taken = bytes.len().min(LONGEST_MESSAGE - waiting.len());
+    waiting.extend(&bytes[..taken]);
+    taken
+}
+
 /// Whenever bytes have come: passes on what is due. Says whether the conversation goes on.
 fn pump(protocol: &Table, talk: &mut Conversation, log: &mut dyn Write) -> io::Result<bool> {
-    let mut out = [0; LONGEST];
+    let mut out = [0; LONGEST_MESSAGE];
     loop {
         let due = protocol.due(talk.state, &talk.device, &talk.host);
         let (side, length) = (due.side, due.message.len());
         if length == 0 {
-            return Ok(may_go_on(protocol, talk, side));
+            return may_go_on(protocol, talk, side, log);
         }
         match protocol.step(&mut talk.state, side, due.message, &mut out) {
             Verdict::Forwarded => pass_on(side, &out[..length], log)?,
-            // Early, no fault: keep it until it is its turn. (`due` never hands out such a message.)
-            Verdict::Refused(Question(12)) => return Ok(true),
+            // Not met: what `due` hands out is in turn and well formed, and `out` holds it.
             Verdict::Refused(question) => {
                 writeln!(log, "refused {}", question.0)?;
                 return Ok(false);
@@ -94,25 +124,23 @@ fn pump(protocol: &Table, talk: &mut Conversation, log: &mut dyn Write) -> io::R
                 return Ok(false);
             }
         }
-        match side {
-            Party::Device => talk.device.drain(..length),
-            Party::Host => talk.host.drain(..length),
-        };
+        talk.waiting(side).drain(..length);
     }
+}
+
+/// Nothing is due. Can it be once more bytes have come?
+fn may_go_on(protocol: &Table, talk: &mut Conversation, side: Party, log: &mut dyn Write) -> io::Result<bool> {
+    if protocol.turn(talk.state).is_none() {
+        return Ok(false);
+    }
+    if message::broken(talk.waiting(side)) {
+        writeln!(log, "no message from {side:?}")?;
+        return Ok(false);
+    }
+    Ok(true)
 }
 
 /// To the other side; here, to the log.
 fn pass_on(from: Party, message: &[u8], log: &mut dyn Write) -> io::Result<()> {
     writeln!(log, "from {from:?}: {} bytes", message.len())
-}
-
-/// Nothing is due. Is the conversation over, or are there bytes that no further ones can mend?
-fn may_go_on(protocol: &Table, talk: &Conversation, side: Party) -> bool {
-    let waiting = if side == Party::Device { &talk.device } else { &talk.host };
-    match message::front(waiting) {
-        _ if protocol.turn(talk.state).is_none() => false,
-        Err(Question(13)) => waiting.len() < LONGEST_FRONT,
-        Err(_) => false,
-        Ok(_) => true,
-    }
 }

@@ -1,6 +1,6 @@
 //! The conversation monitor of document 01, for Rust.
 //!
-//! [`proved`] is the product: the proved code of the static library `libboundary.a` behind safe types, all of which stand here
+//! [`proved`] is the product: the proved code of the static library `libsojimu.a` behind safe types, all of which stand here
 //! too. [`second`] is a second implementation of the document, in safe Rust and written from the document alone. It is there to be
 //! compared with: [`compare`] puts both through the same random inputs, and a disagreement is a fault of one of them.
 //! [`bench`](mod@bench) has what the proved code is timed against.

@@ -1,6 +1,8 @@
 //! The proved code and the second implementation on a few random inputs. `cargo run --release --bin compare` has many more.
 
 use sojimu::compare::KINDS;
+use sojimu::second::table::Raw;
+use sojimu::{Standing, State, Table};
 
 #[test]
 fn they_agree() {
@@ -11,4 +13,10 @@ fn they_agree() {
             panic!("{}: {}\n{}", kind.name, first.what, first.again());
         }
     }
+}
+
+#[test]
+fn what_takes_nothing() {
+    assert_eq!(Table::empty(), Table::from(&Raw::empty()));
+    assert_eq!(State::fresh(), State { position: 0, standing: Standing::RUNNING });
 }

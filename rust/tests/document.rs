@@ -171,9 +171,10 @@ fn dual_of_dual() {
 
 #[test]
 fn the_raw_table() {
-    assert_eq!(std::mem::size_of::<Raw>(), 6056);
+    assert_eq!(std::mem::size_of::<Raw>(), 9360);
     let raw = Raw::of(&table(P));
-    assert_eq!(raw.label[0], 0x41736B0000000000);
+    assert_eq!((raw.label_high[0], raw.label_low[0]), (0x41736B00, 0));
+    assert_eq!(raw.label(0), label_of(b"Ask"));
     assert_eq!((raw.low[0], raw.high[0]), (0x8000_0000, 0x8000_0064));
     assert_eq!(raw.table(), table(P));
 }

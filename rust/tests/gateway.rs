@@ -1,16 +1,13 @@
 //! docs/GATEWAY.md: its programs are the files that it names, they compile, and they print what it says.
 
-use std::path::{Path, PathBuf};
-use std::process::Command;
-
+mod compiled;
 #[allow(dead_code)]
 #[path = "../examples/gateway.rs"]
 mod gateway;
 
-/// A file of the repository.
-fn file(name: &str) -> PathBuf {
-    Path::new(env!("CARGO_MANIFEST_DIR")).join("..").join(name)
-}
+use compiled::{file, printed_by};
+use gateway::{hear, Conversation};
+use sojimu::{Party, Table};
 
 fn contents(name: &str) -> String {
     let path = file(name);
@@ -41,21 +38,40 @@ fn the_rust_program() {
 
 #[test]
 fn the_c_program() {
-    let header = std::env::var_os("SOJIMU_INCLUDE_DIR").map_or_else(|| file("include"), PathBuf::from);
-    let program = Path::new(env!("CARGO_TARGET_TMPDIR")).join("gateway");
-    let warnings = ["-std=c11", "-O2", "-Wall", "-Wextra", "-Wpedantic", "-Wshadow", "-Wconversion", "-Werror"];
-    let compiled = Command::new("cc")
-        .args(warnings)
-        .arg("-I")
-        .arg(header)
-        .arg(file("tests/c/gateway.c"))
-        .arg(env!("SOJIMU_ARCHIVE"))
-        .arg("-o")
-        .arg(&program)
-        .output()
-        .unwrap();
-    assert!(compiled.status.success(), "{}", String::from_utf8_lossy(&compiled.stderr));
-    let ran = Command::new(program).output().unwrap();
-    assert!(ran.status.success());
-    assert_eq!(String::from_utf8(ran.stdout).unwrap(), block("text"));
+    assert_eq!(printed_by(&file("tests/c/gateway.c")), block("text"));
+}
+
+/// What the gateway logs of one side's bytes, in pieces of some length, and whether the conversation goes on.
+fn heard(protocol: &[u8], side: Party, bytes: &[u8], piece: usize) -> (String, bool) {
+    let protocol = Table::read(protocol).unwrap();
+    let (mut talk, mut log) = (Conversation::default(), Vec::new());
+    let goes_on = bytes.chunks(piece).all(|piece| hear(&protocol, &mut talk, side, piece, &mut log).unwrap());
+    (String::from_utf8(log).unwrap(), goes_on)
+}
+
+const SAYS: &[u8] = b"rec X.+{!Say(text[0..64]).X}";
+
+#[test]
+fn what_waits_is_bounded() {
+    let message = [b"Say\0\0\0\0\0\x01\x01\0\0\0\x40".as_slice(), &[b' '; 64]].concat();
+    let many = message.repeat(100);
+    for piece in [1, 9, 78, 285, 286, many.len()] {
+        assert_eq!(heard(SAYS, Party::Device, &many, piece), ("from Device: 78 bytes\n".repeat(100), true));
+        // It is never the host's turn.
+        assert_eq!(heard(SAYS, Party::Host, &many, piece), ("too much from Host\n".into(), false));
+        assert_eq!(heard(SAYS, Party::Host, &many[..285], piece), (String::new(), true));
+    }
+}
+
+#[test]
+fn what_cannot_become_a_message_closes_the_line() {
+    for piece in [1, 5, 100] {
+        let closed = ("no message from Device\n".to_string(), false);
+        for junk in ["GET / HTTP", "Say\0\0\0\0\0\x05", "Say\0\0\0\0\0\x01\x01\0\0\0\x41", "Say\0\0\0\0\0\x01\x03\0\0\0\0"] {
+            assert_eq!(heard(SAYS, Party::Device, junk.as_bytes(), piece), closed);
+        }
+        for start in ["GET / HT", "Say\0\0\0\0\0\x01\x01\0\0\0"] {
+            assert_eq!(heard(SAYS, Party::Device, start.as_bytes(), piece), (String::new(), true));
+        }
+    }
 }

@@ -50,7 +50,7 @@ fn the_plain_monitor() {
         for branch in 0..=lists.branches.len() {
             let high = random.one_in(2).then(|| random.below(4));
             let (mut out, mut other) = ([0xEE; 300], [0xEE; 300]);
-            let made = plain::make(&table, branch as u16, high.map(|field| field as u8), &mut out);
+            let made = plain::make(&table, branch as u32, high.map(|field| field as u32), &mut out);
             let wanted = message::make(&lists, branch, high, &mut other);
             assert_eq!((made, out), (wanted.map_err(Question), other), "seed {seed}");
         }
@@ -58,6 +58,7 @@ fn the_plain_monitor() {
             let damaged = damaged_table(&mut random, &columns, column);
             assert_eq!(plain::sound(&Table::from(&damaged)), damaged.sound(), "seed {seed}, column {column}");
         }
+        assert!(!plain::sound(&Table::from(&any_raw(&mut random))), "seed {seed}");
     }
 }
 

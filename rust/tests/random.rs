@@ -154,6 +154,41 @@ fn messages_of_any_sort() {
 }
 
 #[test]
+fn broken_bytes() {
+    // The longest front: label, count, and arrays of four.
+    const TELLING: usize = 29;
+    let (mut broken, mut more) = (0, 0);
+    for seed in 0..rounds(4000) {
+        let mut random = Random::new(seed);
+        let table = sound_table(&mut random, 6, 12);
+        let mut bytes = waiting(&mut random, &table);
+        if random.one_in(4) {
+            bytes = random.bytes(40);
+        }
+        for length in 0..=bytes.len() {
+            let part = &bytes[..length];
+            let front = message::front(part);
+            if message::broken(part) {
+                broken += 1;
+                assert!(front.is_err(), "seed {seed}");
+                // Nothing that follows makes a message of them.
+                let mut longer = bytes[..length].to_vec();
+                longer.extend(random.bytes(60));
+                assert!(message::broken(&longer) && message::front(&longer).is_err(), "seed {seed}");
+            } else if front.is_err() {
+                more += 1;
+                assert!(length < TELLING, "seed {seed}");
+            }
+        }
+        // No beginning of a message is broken.
+        let whole = any_message(&mut random).bytes();
+        assert!((0..=whole.len()).all(|length| !message::broken(&whole[..length])), "seed {seed}");
+    }
+    println!("broken {broken}, not all there {more}");
+    assert!(broken > 1000 && more > 1000);
+}
+
+#[test]
 fn conversations() {
     let mut refused = [0; 17];
     let mut blamed = [[0; 4]; 2];

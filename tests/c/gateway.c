@@ -9,12 +9,10 @@ static const char other_text[] = "rec X.+{!Ask(int[0..200]).&{?Ok().X}}";
 
 static const char *const names[] = {"Device", "Host"};
 
-enum { LONGEST_FRONT = 29 }; /* label, field count and arrays of any message */
-
-/* One conversation: its state, and the bytes that wait on either side. */
+/* One conversation: its state, and the bytes that wait on either side. Room for the longest message is enough. */
 struct conversation {
     struct sojimu_state state;
-    uint8_t waiting[2][4096];
+    uint8_t waiting[2][SOJIMU_MESSAGE];
     size_t length[2];
 };
 
@@ -23,7 +21,7 @@ static bool load(const char *text, struct sojimu_table *table)
 {
     const struct sojimu_reading reading = sojimu_read((const uint8_t *)text, strlen(text));
     if (reading.question != 0) {
-        printf("text refused %d at %zu\n", reading.question, reading.at);
+        printf("text refused %u at %u\n", reading.question, reading.at);
         return false;
     }
     *table = reading.table;
@@ -36,40 +34,46 @@ static bool fits(const struct sojimu_table *device, const struct sojimu_table *p
     uint16_t list[SOJIMU_LIST];
     const struct sojimu_fit fit = sojimu_fit(device, protocol, list, SOJIMU_LIST);
     if (fit.outcome == SOJIMU_FITS) {
-        printf("fits, %d pairs\n", fit.count);
+        printf("fits, %u pairs\n", fit.count);
         return true;
     }
     if (fit.outcome == SOJIMU_FIT_REFUSED) {
-        printf("fit check refused %d\n", fit.question);
+        printf("fit check refused %u\n", fit.question);
         return false;
     }
     printf("does not fit:");
-    for (int i = 0; i < fit.count; i++)
+    for (uint32_t i = 0; i < fit.count; i++)
         printf(" %d", list[i]);
     if (fit.high != SOJIMU_ALL_LOW)
-        printf(", field %d high", fit.high);
+        printf(", field %u high", fit.high);
     printf("\n");
     return false;
 }
 
-/* Bytes have come from a side. */
-static void receive(struct conversation *talk, int side, const char *bytes, size_t length)
+/* Bytes have come from a side. Takes what there is room for, and says how many that were: the others are still the caller's. */
+static size_t receive(struct conversation *talk, uint32_t side, const char *bytes, size_t length)
 {
-    memcpy(talk->waiting[side] + talk->length[side], bytes, length);
-    talk->length[side] += length;
+    const size_t room = SOJIMU_MESSAGE - talk->length[side];
+    const size_t taken = length < room ? length : room;
+    memcpy(talk->waiting[side] + talk->length[side], bytes, taken);
+    talk->length[side] += taken;
+    return taken;
 }
 
-/* Nothing is due. Is the conversation over, or are there bytes that no further ones can mend? */
-static bool may_go_on(const struct sojimu_table *protocol, const struct conversation *talk, int side)
+/* Nothing is due. Can it be once more bytes have come? */
+static bool may_go_on(const struct sojimu_table *protocol, const struct conversation *talk, uint32_t side)
 {
-    const struct sojimu_head head = sojimu_front(talk->waiting[side], talk->length[side]);
     if (sojimu_turn(protocol, talk->state) == SOJIMU_NOBODY)
         return false;
-    return head.question == 0 || (head.question == 13 && talk->length[side] < LONGEST_FRONT);
+    if (sojimu_broken(talk->waiting[side], talk->length[side])) {
+        printf("no message from %s\n", names[side]);
+        return false;
+    }
+    return true;
 }
 
 /* To the other side; here, to the log. */
-static void pass_on(int from, const uint8_t *message, size_t length)
+static void pass_on(uint32_t from, const uint8_t *message, size_t length)
 {
     (void)message;
     printf("from %s: %zu bytes\n", names[from], length);
@@ -93,9 +97,7 @@ static bool pump(const struct sojimu_table *protocol, struct conversation *talk)
             return false;
         }
         if (verdict.outcome == SOJIMU_REFUSED) {
-            /* 12: early, no fault: keep it until it is its turn. (sojimu_due never hands out such a message.) */
-            if (verdict.question == 12)
-                return true;
+            /* Not met: what sojimu_due hands out is in turn and well formed, and `out` holds it. */
             printf("refused %d\n", verdict.question);
             return false;
         }
@@ -105,23 +107,46 @@ static bool pump(const struct sojimu_table *protocol, struct conversation *talk)
     }
 }
 
+/* A line has bytes: takes them and passes on what is due, until all are taken. Says whether the conversation goes on. */
+static bool hear(const struct sojimu_table *protocol, struct conversation *talk, uint32_t side, const char *bytes, size_t length)
+{
+    while (length > 0) {
+        const size_t taken = receive(talk, side, bytes, length);
+        if (taken == 0) {
+            printf("too much from %s\n", names[side]);
+            return false;
+        }
+        if (!pump(protocol, talk))
+            return false;
+        bytes += taken;
+        length -= taken;
+    }
+    return true;
+}
+
 int main(void)
 {
     struct sojimu_table protocol, device, other;
+    if (!sojimu_matches()) {
+        printf("the archive is of another version\n");
+        return 1;
+    }
     load("rec X.X", &protocol);
     if (!load(protocol_text, &protocol) || !load(device_text, &device) || !load(other_text, &other))
         return 1;
     fits(&other, &protocol);
     if (!fits(&device, &protocol))
         return 1;
-    struct conversation talk = {.state = sojimu_fresh()};
     /* The host is early, and the device's first message comes in two pieces. */
-    receive(&talk, SOJIMU_HOST, "Ok\0\0\0\0\0\0\0", 9);
-    receive(&talk, SOJIMU_DEVICE, "Ask\0\0\0\0\0\1\0", 10);
-    pump(&protocol, &talk);
-    receive(&talk, SOJIMU_DEVICE, "\0\0\0\7", 4);
-    pump(&protocol, &talk);
-    receive(&talk, SOJIMU_DEVICE, "Ask\0\0\0\0\0\1\0\0\0\0\145", 14);
-    pump(&protocol, &talk);
-    return talk.state.standing == SOJIMU_DEVICE_BLAMED ? 0 : 1;
+    struct conversation talk = {.state = sojimu_fresh()};
+    hear(&protocol, &talk, SOJIMU_HOST, "Ok\0\0\0\0\0\0\0", 9);
+    hear(&protocol, &talk, SOJIMU_DEVICE, "Ask\0\0\0\0\0\1\0", 10);
+    hear(&protocol, &talk, SOJIMU_DEVICE, "\0\0\0\7", 4);
+    if (hear(&protocol, &talk, SOJIMU_DEVICE, "Ask\0\0\0\0\0\1\0\0\0\0\145", 14))
+        return 1;
+    /* A device that speaks another language. */
+    struct conversation strange = {.state = sojimu_fresh()};
+    if (hear(&protocol, &strange, SOJIMU_DEVICE, "GET / HTTP/1.1\r\n", 16))
+        return 1;
+    return 0;
 }

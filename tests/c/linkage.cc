@@ -7,18 +7,22 @@ int main()
 {
     const char *text = "rec X.+{!Ask(int[0..100]).&{?Ok().X},!Quit().end}";
     const sojimu_reading r = sojimu_read(reinterpret_cast<const uint8_t *>(text), std::strlen(text));
-    const sojimu_turned d = sojimu_dual(r.table);
+    const sojimu_turned d = sojimu_dual(&r.table);
+    const sojimu_table none = sojimu_empty();
     uint16_t list[SOJIMU_LIST] = {};
-    uint8_t message[SOJIMU_MESSAGE] = {}, out[SOJIMU_MESSAGE] = {};
+    uint8_t message[SOJIMU_MESSAGE] = {}, encoded[SOJIMU_MESSAGE] = {}, out[SOJIMU_MESSAGE] = {};
     sojimu_state s = sojimu_fresh();
+    const sojimu_field hundred = sojimu_int(100);
     const sojimu_made made = sojimu_make(&r.table, 0, 0, message, sizeof message);
+    const sojimu_made same = sojimu_encode(sojimu_label("Ask"), &hundred, 1, encoded, sizeof encoded);
     const struct sojimu_due due = sojimu_due(&r.table, s, message, sizeof message, nullptr, 0);
     const sojimu_head head = sojimu_front(message, due.length);
     const sojimu_verdict v = sojimu_step(&r.table, &s, SOJIMU_DEVICE, message, due.length, out, sizeof out);
     const struct sojimu_fit f = sojimu_fit(&r.table, &r.table, list, SOJIMU_LIST);
-    const bool right = r.question == 0 && sojimu_sound(&r.table) && d.question == 0 && made.length == 14 &&
+    const bool right = sojimu_matches() && r.question == 0 && sojimu_sound(&r.table) && d.question == 0 && none.states == 0 &&
+                       made.length == 14 && same.length == 14 && std::memcmp(message, encoded, sizeof encoded) == 0 &&
                        due.side == SOJIMU_DEVICE && due.length == 14 && head.length == 14 && v.outcome == SOJIMU_FORWARDED &&
-                       std::memcmp(message, out, sizeof out) == 0 && s.position == 1 && sojimu_turn(&r.table, s) == SOJIMU_HOST &&
-                       f.outcome == SOJIMU_FITS && f.count == 3;
+                       std::memcmp(message, out, sizeof out) == 0 && s.position == 1 &&
+                       sojimu_turn(&r.table, s) == SOJIMU_HOST && f.outcome == SOJIMU_FITS && f.count == 3;
     return right ? 0 : 1;
 }

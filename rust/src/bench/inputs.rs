@@ -9,9 +9,9 @@ pub struct Input {
     /// The protocol as text.
     pub text: Vec<u8>,
     /// The branches that lead from the fresh state to the round.
-    pub before: Vec<u16>,
+    pub before: Vec<u32>,
     /// The branches of one round.
-    pub round: Vec<u16>,
+    pub round: Vec<u32>,
 }
 
 /// 3 states, 3 branches: document 01's P, asked and answered.
@@ -83,7 +83,7 @@ impl Input {
     /// ```
     /// for input in sojimu::bench::inputs::Input::all() {
     ///     let (start, round) = input.conversation();
-    ///     assert_eq!(start.position, input.table().owner[usize::from(input.round[0])]);
+    ///     assert_eq!(u32::from(start.position), input.table().owner[input.round[0] as usize]);
     ///     assert_eq!(round.len(), input.round.len());
     /// }
     /// ```
@@ -91,7 +91,7 @@ impl Input {
         let table = self.table();
         let mut state = State::fresh();
         let mut out = [0; 300];
-        let mut say = |branch: u16, state: &mut State| {
+        let mut say = |branch: u32, state: &mut State| {
             let mut message = vec![0; 300];
             let length = table.make(branch, None, &mut message).expect("a branch");
             message.truncate(length);

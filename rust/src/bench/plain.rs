@@ -4,24 +4,24 @@ use crate::proved::{Due, Party, Question, Reason, Standing, State, Table, Verdic
 
 /// Question 9: is the table sound?
 pub fn sound(table: &Table) -> bool {
-    let (states, branches) = (usize::from(table.states), usize::from(table.branches));
+    let (states, branches) = (table.states as usize, table.branches as usize);
     if !(1..=MOST_STATES).contains(&states) || branches > MOST_BRANCHES {
         return false;
     }
     let (sort, owner, target) = (&table.sort[..states], &table.owner[..branches], &table.target[..branches]);
-    let (fields, label) = (&table.fields[..branches], &table.label[..branches]);
+    let (fields, high, low) = (&table.fields[..branches], &table.label_high[..branches], &table.label_low[..branches]);
     if sort.iter().any(|&sort| sort > 2)
         || owner.iter().chain(target).any(|&state| state >= table.states)
-        || fields.iter().any(|&count| usize::from(count) > MOST_FIELDS)
+        || fields.iter().any(|&count| count as usize > MOST_FIELDS)
     {
         return false;
     }
     let choices = (0..states).filter(|&state| sort[state] != 0).fold(0u32, |set, state| set | 1 << state);
     let owners = owner.iter().fold(0u32, |set, &state| set | 1 << state);
     choices == owners
-        && label.iter().all(|&label| legal_label(label))
+        && high.iter().zip(low).all(|(&high, &low)| legal_label(u64::from(high) << 32 | u64::from(low)))
         && (0..branches).all(|branch| ranges_legal(table, branch))
-        && labels_differ(owner, label)
+        && labels_differ(owner, high, low)
 }
 
 /// What is not filling is a letter or digit, the first a capital.
@@ -32,13 +32,13 @@ fn legal_label(label: u64) -> bool {
 }
 
 fn ranges_legal(table: &Table, branch: usize) -> bool {
-    let places = MOST_FIELDS * branch..MOST_FIELDS * branch + usize::from(table.fields[branch]);
+    let places = MOST_FIELDS * branch..MOST_FIELDS * branch + table.fields[branch] as usize;
     let (kind, low, high) = (&table.kind[places.clone()], &table.low[places.clone()], &table.high[places]);
     let within = |kind, number: u32| holds(kind, number.wrapping_sub(1 << 31) as i32);
     kind.iter().zip(low).zip(high).all(|((&kind, &low), &high)| low <= high && within(kind, low) && within(kind, high))
 }
 
-fn holds(kind: u8, number: i32) -> bool {
+fn holds(kind: u32, number: i32) -> bool {
     match kind {
         0 => true,
         1 => (0..=64).contains(&number),
@@ -48,14 +48,18 @@ fn holds(kind: u8, number: i32) -> bool {
 }
 
 /// Within a state. Few branches are compared in pairs, many sorted.
-fn labels_differ(owner: &[u8], label: &[u64]) -> bool {
-    if label.len() <= 24 {
-        let met = |i: usize| label[..i].iter().zip(&owner[..i]).any(|(&l, &o)| l == label[i] && o == owner[i]);
-        return !(1..label.len()).any(met);
+fn labels_differ(owner: &[u32], high: &[u32], low: &[u32]) -> bool {
+    let branches = owner.len();
+    if branches <= 24 {
+        let met = |i: usize| {
+            let mut before = high[..i].iter().zip(&low[..i]).zip(&owner[..i]);
+            before.any(|((&h, &l), &o)| h == high[i] && l == low[i] && o == owner[i])
+        };
+        return !(1..branches).any(met);
     }
-    let mut all = [(0, 0); MOST_BRANCHES];
-    let all = &mut all[..label.len()];
-    all.iter_mut().zip(label.iter().zip(owner)).for_each(|(one, (&label, &owner))| *one = (label, owner));
+    let mut all = [(0, 0, 0); MOST_BRANCHES];
+    let all = &mut all[..branches];
+    all.iter_mut().zip(high.iter().zip(low).zip(owner)).for_each(|(one, ((&high, &low), &owner))| *one = (high, low, owner));
     all.sort_unstable();
     all.windows(2).all(|pair| pair[0] != pair[1])
 }
@@ -89,7 +93,7 @@ pub fn front(bytes: &[u8]) -> Result<Parsed<'_>, Question> {
     let mut parsed = Parsed { label, kinds, numbers: &rest[..4 * count], length: 9 + 5 * count };
     let mut texts = 0;
     for (&kind, number) in kinds.iter().zip(parsed.numbers()) {
-        if !holds(kind, number) {
+        if !holds(kind.into(), number) {
             return Err(Question(14));
         }
         if kind == 1 {
@@ -144,7 +148,7 @@ fn target(table: &Table, state: State, side: Party, message: &[u8], room: usize)
 
 /// Questions 9, 10 and 11, and then whose turn it is.
 fn turn(table: &Table, state: State) -> Result<Party, Question> {
-    if !sound(table) || state.position >= table.states {
+    if !sound(table) || u32::from(state.position) >= table.states {
         return Err(Question(9));
     }
     if state.standing != Standing::RUNNING {
@@ -158,19 +162,22 @@ fn turn(table: &Table, state: State) -> Result<Party, Question> {
 }
 
 fn judge(table: &Table, position: u8, message: &Parsed<'_>) -> Result<u8, Reason> {
-    let branches = usize::from(table.branches);
+    let branches = table.branches as usize;
     let label = u64::from_be_bytes(*message.label);
-    let mut owners = table.owner[..branches].iter().zip(&table.label[..branches]);
-    let branch = owners.position(|(&owner, &own)| own == label && owner == position).ok_or(Reason::NoLabel)?;
-    let places = MOST_FIELDS * branch..MOST_FIELDS * branch + usize::from(table.fields[branch]);
-    if table.kind[places.clone()] != *message.kinds {
+    let (high, low) = ((label >> 32) as u32, label as u32);
+    let labels = table.label_high[..branches].iter().zip(&table.label_low[..branches]);
+    let mut owned = table.owner[..branches].iter().zip(labels);
+    let own = |(&owner, label): (&u32, (&u32, &u32))| label == (&high, &low) && owner == u32::from(position);
+    let branch = owned.position(own).ok_or(Reason::NoLabel)?;
+    let places = MOST_FIELDS * branch..MOST_FIELDS * branch + table.fields[branch] as usize;
+    if !table.kind[places.clone()].iter().copied().eq(message.kinds.iter().map(|&kind| kind.into())) {
         return Err(Reason::OtherKinds);
     }
     let ranges = table.low[places.clone()].iter().zip(&table.high[places]);
     let inside = |(number, (&low, &high)): (i32, (&u32, &u32))| (low..=high).contains(&(number as u32).wrapping_add(1 << 31));
     match message.numbers().zip(ranges).position(|field| !inside(field)) {
         Some(field) => Err(Reason::OutOfRange(field as u8)),
-        None => Ok(table.target[branch]),
+        None => Ok(table.target[branch] as u8),
     }
 }
 
@@ -190,19 +197,19 @@ pub fn due<'a>(table: &Table, state: State, device: &'a [u8], host: &'a [u8]) ->
 
 /// The message of a branch.
 #[inline(never)]
-pub fn make(table: &Table, branch: u16, high: Option<u8>, out: &mut [u8]) -> Result<usize, Question> {
+pub fn make(table: &Table, branch: u32, high: Option<u32>, out: &mut [u8]) -> Result<usize, Question> {
     if !sound(table) {
         return Err(Question(9));
     }
-    let branch = usize::from(branch);
-    if branch >= usize::from(table.branches) || high.is_some_and(|field| field >= table.fields[branch]) {
+    let at = branch as usize;
+    if branch >= table.branches || high.is_some_and(|field| field >= table.fields[at]) {
         return Err(Question(18));
     }
-    let places = MOST_FIELDS * branch..MOST_FIELDS * branch + usize::from(table.fields[branch]);
+    let places = MOST_FIELDS * at..MOST_FIELDS * at + table.fields[at] as usize;
     let kinds = &table.kind[places.clone()];
     let mut numbers = [0; MOST_FIELDS];
     for (field, place) in places.enumerate() {
-        let named = high.map(usize::from) == Some(field);
+        let named = high == Some(field as u32);
         let number = if named { table.high[place] } else { table.low[place] };
         numbers[field] = number.wrapping_sub(1 << 31) as i32;
     }
@@ -210,11 +217,11 @@ pub fn make(table: &Table, branch: u16, high: Option<u8>, out: &mut [u8]) -> Res
     let length = 9 + 5 * kinds.len() + texts;
     let out = out.get_mut(..length).ok_or(Question(16))?;
     let (label, rest) = out.split_at_mut(8);
-    label.copy_from_slice(&table.label[branch].to_be_bytes());
+    label.copy_from_slice(&table.label(at).to_be_bytes());
     rest[0] = kinds.len() as u8;
     let (arrays, filling) = rest[1..].split_at_mut(5 * kinds.len());
     let (codes, bytes) = arrays.split_at_mut(kinds.len());
-    codes.copy_from_slice(kinds);
+    codes.iter_mut().zip(kinds).for_each(|(code, &kind)| *code = kind as u8);
     bytes.chunks_exact_mut(4).zip(numbers).for_each(|(bytes, number)| bytes.copy_from_slice(&number.to_be_bytes()));
     filling.fill(0x20);
     Ok(length)

@@ -111,6 +111,9 @@ fn whole(options: &Options) -> usize {
         demand(format!("reason {number}"), count, OFTEN);
     }
     demand("forwarded".into(), tally.forwarded, OFTEN);
+    demand("broken".into(), tally.broken, OFTEN);
+    demand("wide words".into(), tally.wide, OFTEN);
+    demand("strange".into(), tally.strange, OFTEN);
     demand("fits".into(), tally.fits, OFTEN);
     demand("fails".into(), tally.fails, OFTEN);
     demand("by a high one".into(), tally.high, OFTEN);

@@ -1,10 +1,11 @@
 //! One input in the forms of both implementations, and the answers of the second in the types of the first.
 
+use crate::proved::ffi;
 use crate::proved::{Party, Question, Reason, Standing, State, Table, Verdict};
 use crate::second::monitor as second;
 use crate::second::table::{self, Raw};
 
-/// A table as columns, and the same as the second implementation has it; there, columns that are not sound are the empty table.
+/// A table as words, and the same as the second implementation has it; there, words that are not sound are the empty table.
 pub struct Both {
     pub proved: Table,
     pub second: table::Table,
@@ -25,10 +26,12 @@ impl From<&Raw> for Table {
             owner: raw.owner,
             target: raw.target,
             fields: raw.fields,
-            label: raw.label,
+            label_high: raw.label_high,
+            label_low: raw.label_low,
             kind: raw.kind,
             low: raw.low,
             high: raw.high,
+            reserved: raw.reserved,
         }
     }
 }
@@ -42,10 +45,12 @@ impl From<&Table> for Raw {
             owner: table.owner,
             target: table.target,
             fields: table.fields,
-            label: table.label,
+            label_high: table.label_high,
+            label_low: table.label_low,
             kind: table.kind,
             low: table.low,
             high: table.high,
+            reserved: table.reserved,
         }
     }
 }
@@ -92,5 +97,29 @@ pub fn verdict(verdict: second::Verdict) -> Verdict {
                 second::Reason::Range(field) => Reason::OutOfRange(field as u8),
             },
         ),
+    }
+}
+
+/// The verdict in the bytes that it is given back in: what does not apply is 0.
+pub fn verdict_codes(verdict: second::Verdict) -> ffi::Verdict {
+    let nothing = ffi::Verdict { outcome: 0, question: 0, party: 0, reason: 0, field: 0 };
+    match verdict {
+        second::Verdict::Forwarded => nothing,
+        second::Verdict::Refused(question) => ffi::Verdict { outcome: 1, question, ..nothing },
+        second::Verdict::Blamed(side, reason) => {
+            let field = match reason {
+                second::Reason::Label | second::Reason::Kinds => 0,
+                second::Reason::Range(field) => field as u8,
+            };
+            ffi::Verdict { outcome: 2, party: party(side) as u8, reason: reason.number(), field, ..nothing }
+        }
+    }
+}
+
+/// An answer's question and number: 0 and the number, or the question that got a no and 0.
+pub fn codes(answer: Result<usize, u8>) -> (u32, u32) {
+    match answer {
+        Ok(number) => (0, number as u32),
+        Err(question) => (question.into(), 0),
     }
 }

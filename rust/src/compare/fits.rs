@@ -2,7 +2,7 @@
 
 use super::both::Both;
 use super::{show, Outcome, Tally};
-use crate::proved::{Fitting, Question};
+use crate::proved::{ffi, Fitting, Question};
 use crate::second::brute::explore;
 use crate::second::fit::{fit, shows_no_fit, Answer};
 use crate::second::random::{cycle_pair, damaged_table, raised, table_pair, with_noise, Random, COLUMNS};
@@ -72,31 +72,43 @@ fn pair(random: &mut Random, device: &Table, protocol: &Table, tally: &mut Tally
 /// The fit check through both. Of a failing list: as many moves, and on the machine they show that the device does not fit. What
 /// the list had beyond them is unchanged.
 fn check(device: &Both, protocol: &Both, room: usize, tally: &mut Tally) -> Result<Fitting, String> {
-    let mut list = vec![UNTOUCHED; room];
+    let (mut list, mut again) = (vec![UNTOUCHED; room], vec![UNTOUCHED; room]);
     let answer = device.proved.fit(&protocol.proved, &mut list);
-    let moves = match answer {
-        Fitting::Fails { moves, .. } => moves,
-        _ => 0,
+    let given = ffi::fit(&device.proved, &protocol.proved, &mut again);
+    let (proved, high) = match answer {
+        Fitting::Refused(Question(number)) => (Answer::Refused(number), None),
+        Fitting::Fits { pairs } => (Answer::Fits(pairs), None),
+        Fitting::Fails { moves, high } => (Answer::NoFit(moves, None), high),
     };
-    let (played, rest) = list.split_at(moves.min(room));
-    let untouched = rest.iter().all(|&entry| entry == UNTOUCHED);
     let second = match fit(&device.second, &protocol.second, &mut vec![0; room]) {
         Answer::NoFit(moves, _) => Answer::NoFit(moves, None),
         other => other,
     };
-    let (proved, high) = match answer {
-        Fitting::Refused(Question(number)) => (Answer::Refused(number), None),
-        Fitting::Fits { pairs } => (Answer::Fits(pairs), None),
-        Fitting::Fails { moves, high } => (Answer::NoFit(moves, None), high.map(usize::from)),
-    };
     // The machine is one of sound tables.
-    let failing = matches!((proved, second), (Answer::NoFit(..), Answer::NoFit(..)));
-    let shown = !failing || shows_no_fit(&device.second, &protocol.second, played, high);
+    let (moves, shown) = match (proved, second) {
+        (Answer::NoFit(moves, _), Answer::NoFit(..)) => {
+            let high = high.map(|field| field as usize);
+            (moves, shows_no_fit(&device.second, &protocol.second, &list[..moves.min(room)], high))
+        }
+        _ => (0, true),
+    };
+    let untouched = list.iter().skip(moves).all(|&entry| entry == UNTOUCHED);
     count(answer, tally);
-    tally.same("fit", (proved, shown, untouched), (second, true, true), || {
-        format!("room {room}, {answer:?}, list {played:?}\n{}", show_pair(device, protocol))
+    let wanted = (second, true, true, codes(second, high), &list);
+    tally.same("fit", (proved, shown, untouched, given, &again), wanted, || {
+        format!("room {room}, {answer:?}\n{}", show_pair(device, protocol))
     })?;
     Ok(answer)
+}
+
+/// The answer in the numbers that it is given back in: what does not apply is 0, and where no field is high, 255.
+fn codes(answer: Answer, high: Option<u32>) -> ffi::Fit {
+    let (outcome, question, count) = match answer {
+        Answer::Fits(pairs) => (0, 0, pairs as u32),
+        Answer::NoFit(moves, _) => (1, 0, moves as u32),
+        Answer::Refused(question) => (2, question.into(), 0),
+    };
+    ffi::Fit { outcome, question, count, high: high.unwrap_or(255) }
 }
 
 fn count(answer: Fitting, tally: &mut Tally) {

@@ -1,9 +1,10 @@
 //! Bytes as messages: what their front tells, 13, 14 and 15.
 
+use super::both::codes;
 use super::{show, Outcome, Tally};
 use crate::proved::message as proved;
-use crate::proved::Question;
-use crate::second::message::{front, has_label, read};
+use crate::proved::{ffi, Question};
+use crate::second::message::{broken, front, has_label, read};
 use crate::second::random::{label, message_for, sound_table, waiting, Random};
 
 /// Bytes of any sort, through each call that takes bytes alone.
@@ -17,9 +18,15 @@ pub fn case(random: &mut Random, tally: &mut Tally) -> Outcome {
     tally.asked(question);
     tally.same("refusal", question, read(&bytes).err().map(Question), show)?;
     let announced = front(&bytes).map(|message| message.length());
-    tally.same("front", proved::front(&bytes), announced.map_err(Question), show)?;
+    let head = ffi::front(&bytes);
+    let told = (proved::front(&bytes), (head.question, head.length));
+    tally.same("front", told, (announced.map_err(Question), codes(announced)), show)?;
     let whole = announced.ok().filter(|&length| length <= bytes.len());
     tally.same("first_length", proved::first_length(&bytes), whole.unwrap_or(0), show)?;
+    tally.broken += u64::from(proved::broken(&bytes));
+    tally.same("broken", proved::broken(&bytes), broken(&bytes), show)?;
+    let part = &bytes[..random.below(bytes.len().min(30) + 1)];
+    tally.same("broken", proved::broken(part), broken(part), || show::bytes("part", part))?;
 
     let label = label(random, &[]);
     let word = u64::from_be_bytes(label);

@@ -5,7 +5,7 @@ use std::fmt;
 use std::hash::{DefaultHasher, Hash, Hasher};
 
 /// A table of which every entry is compared. It is shown by those that count, and a number that stands for all.
-#[derive(PartialEq, Eq)]
+#[derive(Clone, PartialEq, Eq)]
 pub struct Columns(pub Table);
 
 impl fmt::Debug for Columns {
@@ -28,15 +28,15 @@ pub fn bytes(name: &str, bytes: &[u8]) -> String {
 
 /// A table's entries that count: of each branch owner, target, label, and kind, low, high of its fields.
 pub fn table(name: &str, table: &Table) -> String {
-    let states = usize::from(table.states).min(MOST_STATES);
-    let branches = usize::from(table.branches).min(MOST_BRANCHES);
+    let states = (table.states as usize).min(MOST_STATES);
+    let branches = (table.branches as usize).min(MOST_BRANCHES);
     let mut lines = format!("{name}: {} states, {} branches\n", table.states, table.branches);
     lines += &format!("  sort {:?}\n", &table.sort[..states]);
     for b in 0..branches {
-        let label = String::from_utf8_lossy(&table.label[b].to_be_bytes()).into_owned();
+        let label = String::from_utf8_lossy(&table.label(b).to_be_bytes()).into_owned();
         let (owner, target, fields) = (table.owner[b], table.target[b], table.fields[b]);
         lines += &format!("  branch {b}: owner {owner} target {target} label {label:?} fields {fields}");
-        for f in 0..usize::from(fields).min(MOST_FIELDS) {
+        for f in 0..(fields as usize).min(MOST_FIELDS) {
             let place = MOST_FIELDS * b + f;
             lines += &format!(" [{} {:08X}..{:08X}]", table.kind[place], table.low[place], table.high[place]);
         }

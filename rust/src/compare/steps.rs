@@ -1,11 +1,14 @@
-//! Single steps and due parts, from any state: every standing code, every position.
+//! Single steps and due parts, from any state: every standing code, every position, and sides that are neither.
 
-use super::both::{party, state, state_after, verdict, Both};
+use super::both::{party, state, state_after, verdict, verdict_codes, Both};
 use super::{show, Outcome, Tally};
-use crate::proved::{Standing, State};
+use crate::proved::{ffi, Standing, State};
 use crate::second::monitor::{due, step, turn, Side};
 use crate::second::random::{damaged_message, damaged_table, message_for, sound_table, waiting, with_noise, Random, COLUMNS};
 use crate::second::table::{sound_at, Raw};
+
+/// A byte of the output before the call.
+pub const UNTOUCHED: u8 = 0xEE;
 
 /// What one step is given.
 #[derive(Clone)]
@@ -22,9 +25,17 @@ impl Given {
         let heading = format!("{state:?}, side {side:?}, room {room}\n");
         heading + &show::bytes("message", message) + &show::table("table", &both.proved)
     }
+
+    /// Whose turn it is; nobody's when 9, 10 or 11 would refuse.
+    fn speaker(&self, both: &Both) -> Option<Side> {
+        let at = state(self.state);
+        let sort = *both.second.states.get(at.position)?;
+        let running = self.state.standing == Standing::RUNNING;
+        turn(sort).filter(|_| running && sound_at(&both.second, at.position))
+    }
 }
 
-/// One step and one due part, at any state of a table.
+/// One step, the same of a side that is neither, and one due part, at any state of a table.
 pub fn case(random: &mut Random, tally: &mut Tally) -> Outcome {
     let (states, branches) = *random.pick(&[(3, 4), (6, 12), (12, 20)]);
     let sound = sound_table(random, states, branches);
@@ -53,37 +64,56 @@ pub fn case(random: &mut Random, tally: &mut Tally) -> Outcome {
     let room = if random.one_in(6) { random.below(message.len() + 1) } else { message.len() + random.below(4) };
     let given = Given { state, side, message, room };
     step_of(&given, &both, tally)?;
+    nobodys_step(random, &given, &both, tally)?;
     let (device, host) = (waiting(random, &sound), waiting(random, &sound));
     due_of(&given, &both, &device, &host, tally)
 }
 
-/// The step through both: verdict, state, and every byte of the output. Gives back the state after it.
+/// The step through both: verdict, all its bytes, state, and every byte of the output. Gives back the state after it.
 pub fn step_of(given: &Given, both: &Both, tally: &mut Tally) -> Result<State, String> {
     let Given { state: before, side, message, room } = given;
-    let (mut one, mut other) = (vec![0xEE; *room], vec![0xEE; *room]);
-    let mut after = *before;
-    let proved = both.proved.step(&mut after, party(*side), message, &mut one);
-    let mut wanted = state(*before);
-    let second = step(&both.second, &mut wanted, *side, message, &mut other);
+    let untouched = || vec![UNTOUCHED; *room];
+    let (mut wanted, mut output) = (state(*before), untouched());
+    let second = step(&both.second, &mut wanted, *side, message, &mut output);
+    let left = (state_after(*before, wanted), output);
+    let second = (verdict(second), verdict_codes(second), [left.clone(), left]);
+
+    let (mut after, mut output) = (*before, untouched());
+    let proved = both.proved.step(&mut after, party(*side), message, &mut output);
+    let (mut again, mut same) = (*before, untouched());
+    let codes = ffi::step(&both.proved, &mut again, party(*side) as u32, message, &mut same);
     tally.verdict(proved);
-    let wanted = (verdict(second), state_after(*before, wanted), other);
-    tally.same("step", (proved, after, one), wanted, || given.show(both))?;
+    tally.same("step", (proved, codes, [(after, output), (again, same)]), second, || given.show(both))?;
     Ok(after)
+}
+
+/// The step of a side that is neither: 12, after 9, 10 and 11. Nothing changes.
+pub fn nobodys_step(random: &mut Random, given: &Given, both: &Both, tally: &mut Tally) -> Outcome {
+    let Given { state: before, message, room, .. } = given;
+    let code = *random.pick(&[2, 3, 255, 256, 257, 0x1_0000, 0x1_0001, 0x8000_0000, 0x8000_0001, u32::MAX]);
+    // Whose turn it is not is told the same.
+    let other = if given.speaker(both) == Some(Side::Device) { Side::Host } else { Side::Device };
+    let second = step(&both.second, &mut state(*before), other, message, &mut vec![0; *room]);
+    let (mut after, mut output) = (*before, vec![UNTOUCHED; *room]);
+    let codes = ffi::step(&both.proved, &mut after, code, message, &mut output);
+    tally.strange += 1;
+    let wanted = (verdict_codes(second), *before, vec![UNTOUCHED; *room]);
+    tally.same("step of no side", (codes, after, output), wanted, || format!("side {code}, {}", given.show(both)))
 }
 
 /// Whose turn it is, and the due part of the bytes that wait, through both: side, place and length.
 pub fn due_of(given: &Given, both: &Both, device: &[u8], host: &[u8], tally: &mut Tally) -> Outcome {
     let show = || given.show(both) + &show::bytes("device's", device) + &show::bytes("host's", host);
-    let at = state(given.state);
-    let speaker = match both.second.states.get(at.position) {
-        Some(&sort) if sound_at(&both.second, at.position) && given.state.standing == Standing::RUNNING => turn(sort),
-        _ => None,
-    };
-    tally.same("turn", both.proved.turn(given.state), speaker.map(party), show)?;
+    let speaker = given.speaker(both).map(party);
+    let code = ffi::sojimu_turn(&both.proved, given.state);
+    let wanted = (speaker, speaker.map_or(2, |side| side as u8));
+    tally.same("turn", (both.proved.turn(given.state), code), wanted, show)?;
     let part = both.proved.due(given.state, device, host);
-    let wanted = due(&both.second, &at, device, host);
+    let told = ffi::due(&both.proved, given.state, device, host);
+    let wanted = due(&both.second, &state(given.state), device, host);
     let waiting = if wanted.side == Side::Device { device } else { host };
     // The part begins where that side's bytes begin.
-    let place = (part.side, part.message.as_ptr(), part.message.len());
-    tally.same("due", place, (party(wanted.side), waiting.as_ptr(), wanted.length), show)
+    let place = (part.side, part.message.as_ptr(), part.message.len(), told.side, told.length);
+    let side = party(wanted.side);
+    tally.same("due", place, (side, waiting.as_ptr(), wanted.length, side as u32, wanted.length as u32), show)
 }

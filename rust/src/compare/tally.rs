@@ -15,6 +15,12 @@ pub struct Tally {
     pub reasons: [u64; 4],
     /// Messages forwarded.
     pub forwarded: u64,
+    /// Bytes that nothing can mend.
+    pub broken: u64,
+    /// Tables that are not sound, and would be if each word were its last byte.
+    pub wide: u64,
+    /// Sides that are neither, and positions, branches and named fields above 255.
+    pub strange: u64,
     /// Devices that fit.
     pub fits: u64,
     /// Devices that do not.
@@ -32,6 +38,9 @@ impl Tally {
         self.questions.iter_mut().zip(other.questions).for_each(|(mine, its)| *mine += its);
         self.reasons.iter_mut().zip(other.reasons).for_each(|(mine, its)| *mine += its);
         self.forwarded += other.forwarded;
+        self.broken += other.broken;
+        self.wide += other.wide;
+        self.strange += other.strange;
         self.fits += other.fits;
         self.fails += other.fails;
         self.high += other.high;

@@ -2,12 +2,13 @@
 
 use super::show::{self, Columns};
 use super::{Outcome, Tally};
+use crate::proved::ffi;
 use crate::proved::{Question, Refusal, Table};
 use crate::second::random::{any_text, Random};
 use crate::second::table::Raw;
 use crate::second::text;
 
-/// One text: question and place, or every entry of the table.
+/// One text: question and place, or every word of the table.
 pub fn case(random: &mut Random, tally: &mut Tally) -> Outcome {
     let mut bytes = any_text(random);
     if random.one_in(16) {
@@ -16,14 +17,22 @@ pub fn case(random: &mut Random, tally: &mut Tally) -> Outcome {
     read(&bytes, tally)
 }
 
+/// What the wrapper says, and every number of what is given back: the place is 0, or the table empty, where it does not apply.
 fn read(bytes: &[u8], tally: &mut Tally) -> Outcome {
-    let proved = Table::read(bytes).map(Columns);
-    let second = match text::read(bytes) {
-        Ok(table) => Ok(Columns(Table::from(&Raw::of(&table)))),
-        Err((number, at)) => Err(Refusal { question: Question(number), at }),
+    let (question, at, table) = match text::read(bytes) {
+        Ok(table) => (0, 0, Raw::of(&table)),
+        Err((question, at)) => (question, at, Raw::empty()),
     };
+    let table = Columns(Table::from(&table));
+    let second = match question {
+        0 => Ok(table.clone()),
+        _ => Err(Refusal { question: Question(question), at }),
+    };
+    let proved = Table::read(bytes).map(Columns);
+    let given = ffi::read(bytes);
     tally.asked(proved.as_ref().err().map(|refusal| refusal.question));
-    tally.same("read", proved, second, || show::bytes("text", bytes))
+    let proved = (proved, given.question, given.at, Columns(given.table));
+    tally.same("read", proved, (second, question.into(), at as u32, table), || show::bytes("text", bytes))
 }
 
 /// One byte of the text becomes many: long numbers, names and words, many dots and blanks.

@@ -1,6 +1,9 @@
 //! The fit check.
 
-use super::{ffi, Question, Table};
+use super::{ffi, Question, Table, MOST_STATES};
+
+/// A list of so many entries is long enough for every two tables.
+pub const LONGEST_LIST: usize = MOST_STATES * MOST_STATES;
 
 /// What the fit check says of a device and a protocol.
 #[derive(Clone, Copy, Debug, PartialEq, Eq, Hash)]
@@ -18,7 +21,7 @@ pub enum Fitting {
         /// protocol's. Every number is low, and no list is shorter.
         moves: usize,
         /// The field that is high in the last move, if one is.
-        high: Option<u8>,
+        high: Option<u32>,
     },
 }
 
@@ -30,7 +33,7 @@ impl Table {
     /// use sojimu::{Fitting, Table};
     ///
     /// let protocol = Table::read(b"rec X.+{!Ping().&{?Pong().X},!Quit().end}")?;
-    /// let mut list = [0; 32 * 32];
+    /// let mut list = [0; sojimu::LONGEST_LIST];
     /// let quits = Table::read(b"+{!Quit().end}")?;
     /// assert_eq!(quits.fit(&protocol, &mut list), Fitting::Fits { pairs: 2 });
     /// let other = Table::read(b"+{!Ping().&{?Busy().end}}")?;
@@ -41,11 +44,10 @@ impl Table {
     #[inline]
     pub fn fit(&self, protocol: &Table, list: &mut [u16]) -> Fitting {
         let fit = ffi::fit(self, protocol, list);
-        let count = usize::from(fit.count);
-        match fit.outcome {
-            0 => Fitting::Fits { pairs: count },
-            1 => Fitting::Fails { moves: count, high: (fit.high != 255).then_some(fit.high) },
-            _ => Fitting::Refused(Question(fit.question)),
+        match (fit.outcome, fit.count as usize) {
+            (0, pairs) => Fitting::Fits { pairs },
+            (1, moves) => Fitting::Fails { moves, high: (fit.high != ffi::ALL_LOW).then_some(fit.high) },
+            _ => Fitting::Refused(Question(fit.question as u8)),
         }
     }
 }

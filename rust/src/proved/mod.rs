@@ -1,21 +1,25 @@
-//! The proved code: the static library `libboundary.a` behind safe types.
+//! The proved code: the static library `libsojimu.a` behind safe types.
 //!
 //! The calls are those of document 01 and bear its names: [`Table::read`], [`Table::dual`], [`Table::make`], [`Table::step`],
 //! [`Table::due`], [`Table::fit`], [`report_into`], and in [`message`] the questions that are asked of bytes alone. No call has a
-//! precondition, none but [`report`] allocates, none keeps anything, and a table is lent, never copied ([`Table::dual`] alone takes a copy, which it gives back).
-//! What breaks the rules is refused by the number of its question, and a refusal changes nothing.
+//! precondition, none but [`report`] allocates, none keeps anything, and a table is lent, never copied. What breaks the rules is
+//! refused by the number of its question, and a refusal changes nothing. [`matches()`] says whether archive and wrapper belong
+//! together.
 
 #[allow(unsafe_code)]
-mod ffi;
+pub(crate) mod ffi;
 mod fit;
 pub mod message;
 mod monitor;
 mod question;
 mod report;
 mod table;
+mod version;
 
-pub use fit::Fitting;
+pub use fit::{Fitting, LONGEST_LIST};
+pub use message::LONGEST_MESSAGE;
 pub use monitor::{Due, Party, Reason, Standing, State, Verdict};
 pub use question::{Question, Refusal};
 pub use report::{report, report_into, LONGEST_REPORT};
 pub use table::{Table, MOST_BRANCHES, MOST_FIELDS, MOST_STATES};
+pub use version::{matches, version, VERSION};

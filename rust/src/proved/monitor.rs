@@ -14,7 +14,7 @@ pub enum Party {
 
 impl Party {
     #[inline]
-    fn of(code: u8) -> Option<Party> {
+    fn of(code: u32) -> Option<Party> {
         match code {
             0 => Some(Party::Device),
             1 => Some(Party::Host),
@@ -60,7 +60,7 @@ impl State {
     /// ```
     #[inline]
     pub fn fresh() -> State {
-        ffi::fresh()
+        ffi::sojimu_fresh()
     }
 }
 
@@ -155,7 +155,7 @@ impl Table {
     /// ```
     #[inline]
     pub fn step(&self, state: &mut State, side: Party, message: &[u8], out: &mut [u8]) -> Verdict {
-        Verdict::of(ffi::step(self, state, side as u8, message, out))
+        Verdict::of(ffi::step(self, state, side as u32, message, out))
     }
 
     /// Whose turn it is; nobody's when 9, 10 or 11 would refuse.
@@ -171,7 +171,7 @@ impl Table {
     /// ```
     #[inline]
     pub fn turn(&self, state: State) -> Option<Party> {
-        Party::of(ffi::turn(self, state))
+        Party::of(ffi::sojimu_turn(self, state).into())
     }
 
     /// The due message of the bytes that wait on either side: the first of the side whose turn it is. It is empty, at that side's
@@ -189,9 +189,10 @@ impl Table {
     #[inline]
     pub fn due<'a>(&self, state: State, device: &'a [u8], host: &'a [u8]) -> Due<'a> {
         let due = ffi::due(self, state, device, host);
+        let length = due.length as usize;
         match Party::of(due.side) {
-            Some(Party::Host) => Due { side: Party::Host, message: &host[..due.length] },
-            _ => Due { side: Party::Device, message: &device[..due.length] },
+            Some(Party::Host) => Due { side: Party::Host, message: &host[..length] },
+            _ => Due { side: Party::Device, message: &device[..length] },
         }
     }
 }

@@ -51,8 +51,8 @@ impl Question {
 
     /// The question of an answer's number, where 0 means that none got a no.
     #[inline]
-    pub(super) fn of(number: u8) -> Option<Question> {
-        (number != 0).then_some(Question(number))
+    pub(super) fn of(number: u32) -> Option<Question> {
+        (number != 0).then_some(Question(number as u8))
     }
 }
 

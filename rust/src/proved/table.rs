@@ -9,42 +9,47 @@ pub const MOST_BRANCHES: usize = 128;
 /// The most fields of a branch.
 pub const MOST_FIELDS: usize = 4;
 
-/// A session type as number columns.
+/// A session type as columns of words, 9,360 bytes.
 ///
 /// Any numbers may stand in the columns: every call asks question 9 first, and refuses a table that is not sound. Entries beyond
 /// the counts mean nothing, though `==` compares them too. [`Table::read`] gives a sound table, with 0 in all of them.
 ///
 /// ```
-/// use sojimu::Table;
+/// use sojimu::{message, Table};
 ///
 /// let table = Table::read(b"+{!Quit().end}")?;
 /// assert_eq!((table.states, table.branches), (2, 1));
-/// assert_eq!(table.label[0], u64::from_be_bytes(*b"Quit\0\0\0\0"));
+/// assert_eq!(table.label_high[0], u32::from_be_bytes(*b"Quit"));
+/// assert_eq!(Some(table.label(0)), message::label("Quit"));
 /// # Ok::<(), sojimu::Refusal>(())
 /// ```
 #[repr(C)]
 #[derive(Clone, Debug, PartialEq, Eq, Hash)]
 pub struct Table {
     /// How many states there are.
-    pub states: u8,
+    pub states: u32,
     /// How many branches there are.
-    pub branches: u8,
+    pub branches: u32,
     /// What a state does, as the device sees it: 0 end, 1 sends, 2 receives.
-    pub sort: [u8; MOST_STATES],
+    pub sort: [u32; MOST_STATES],
     /// The state whose branch it is.
-    pub owner: [u8; MOST_BRANCHES],
+    pub owner: [u32; MOST_BRANCHES],
     /// The state that the branch leads to.
-    pub target: [u8; MOST_BRANCHES],
+    pub target: [u32; MOST_BRANCHES],
     /// How many fields the branch has.
-    pub fields: [u8; MOST_BRANCHES],
-    /// The label's eight bytes, filled up with 0x00, high byte first.
-    pub label: [u64; MOST_BRANCHES],
+    pub fields: [u32; MOST_BRANCHES],
+    /// The label's first four bytes, high byte first. A label is filled up with 0x00.
+    pub label_high: [u32; MOST_BRANCHES],
+    /// The label's last four bytes.
+    pub label_low: [u32; MOST_BRANCHES],
     /// The kind of field f of branch b, at 4b + f: 0 int, 1 text, 2 flag.
-    pub kind: [u8; MOST_FIELDS * MOST_BRANCHES],
+    pub kind: [u32; MOST_FIELDS * MOST_BRANCHES],
     /// The least number of the field, plus 2^31.
     pub low: [u32; MOST_FIELDS * MOST_BRANCHES],
     /// The greatest number of the field, plus 2^31.
     pub high: [u32; MOST_FIELDS * MOST_BRANCHES],
+    /// Nothing looks at these.
+    pub reserved: [u32; 130],
 }
 
 impl Table {
@@ -55,7 +60,7 @@ impl Table {
     /// ```
     #[inline]
     pub fn empty() -> Table {
-        ffi::empty()
+        ffi::sojimu_empty()
     }
 
     /// Reads a protocol text; asks 1 to 8.
@@ -72,7 +77,24 @@ impl Table {
         let reading = ffi::read(text);
         match Question::of(reading.question) {
             None => Ok(reading.table),
-            Some(question) => Err(Refusal { question, at: reading.at }),
+            Some(question) => Err(Refusal { question, at: reading.at as usize }),
+        }
+    }
+
+    /// The label of a branch as one number, its eight bytes with the high byte first, as [`message`](super::message) has it. 0
+    /// where the columns have no such entry.
+    ///
+    /// ```
+    /// let table = sojimu::Table::read(b"+{!Quit().end}")?;
+    /// assert_eq!(table.label(0).to_be_bytes(), *b"Quit\0\0\0\0");
+    /// assert_eq!(table.label(128), 0);
+    /// # Ok::<(), sojimu::Refusal>(())
+    /// ```
+    #[inline]
+    pub fn label(&self, branch: usize) -> u64 {
+        match (self.label_high.get(branch), self.label_low.get(branch)) {
+            (Some(&high), Some(&low)) => u64::from(high) << 32 | u64::from(low),
+            _ => 0,
         }
     }
 
@@ -87,7 +109,7 @@ impl Table {
     /// ```
     #[inline]
     pub fn sound(&self) -> bool {
-        ffi::sound(self)
+        ffi::sojimu_sound(self)
     }
 
     /// Question 9 where a position is given with the table: is it sound, and the position one of its states?
@@ -99,8 +121,8 @@ impl Table {
     /// # Ok::<(), sojimu::Refusal>(())
     /// ```
     #[inline]
-    pub fn sound_at(&self, position: u8) -> bool {
-        ffi::sound_at(self.clone(), position)
+    pub fn sound_at(&self, position: u32) -> bool {
+        ffi::sojimu_sound_at(self, position)
     }
 
     /// The same conversation as the other side sees it, sending and receiving exchanged; asks 9.
@@ -114,7 +136,7 @@ impl Table {
     /// ```
     #[inline]
     pub fn dual(&self) -> Result<Table, Question> {
-        let turned = ffi::dual(self.clone());
+        let turned = ffi::sojimu_dual(self);
         match Question::of(turned.question) {
             None => Ok(turned.table),
             Some(question) => Err(question),
@@ -136,12 +158,16 @@ impl Table {
     /// # Ok::<(), sojimu::Refusal>(())
     /// ```
     #[inline]
-    pub fn make(&self, branch: u16, high: Option<u8>, out: &mut [u8]) -> Result<usize, Question> {
-        // 255 names no field. A larger number than any branch's fields is refused alike, so a named 255 becomes 254.
-        let named = high.map_or(255, |field| field.min(254));
+    pub fn make(&self, branch: u32, high: Option<u32>, out: &mut [u8]) -> Result<usize, Question> {
+        let named = match high {
+            None => ffi::ALL_LOW,
+            // The code of "no field" as a field's number: one that no branch has either.
+            Some(ffi::ALL_LOW) => ffi::ALL_LOW + 1,
+            Some(field) => field,
+        };
         let made = ffi::make(self, branch, named, out);
         match Question::of(made.question) {
-            None => Ok(usize::from(made.length)),
+            None => Ok(made.length as usize),
             Some(question) => Err(question),
         }
     }

@@ -87,6 +87,16 @@ pub fn read(bytes: &[u8]) -> Result<Message, u8> {
     Ok(message)
 }
 
+/// "Bytes are broken when nothing that follows can make a message of them that 13 and 14 let pass, as far as can be told from a
+/// whole label and count, and then from whole arrays: there are nine bytes and the label is illegal or the count above 4; or both
+/// arrays are whole and 14 says no."
+pub fn broken(bytes: &[u8]) -> bool {
+    let Some((label, [count, ..])) = bytes.split_first_chunk() else {
+        return false;
+    };
+    !legal_label(label) || usize::from(*count) > MOST_FIELDS || matches!(front(bytes), Err(14))
+}
+
 /// Do the bytes begin with the label's eight bytes?
 pub fn has_label(label: &Label, bytes: &[u8]) -> bool {
     bytes.starts_with(label)

@@ -1,4 +1,4 @@
-//! Tables: states and branches, question 9, the dual, and the raw form in number columns.
+//! Tables: states and branches, question 9, the dual, and the raw form in words.
 
 /// The most states of a table.
 pub const MOST_STATES: usize = 32;
@@ -204,28 +204,33 @@ pub fn dual(table: &Table) -> Result<Table, u8> {
     Ok(Table { states: table.states.iter().map(exchanged).collect(), branches: table.branches.clone() })
 }
 
-/// A table as a plain struct of number columns, as it crosses a C boundary.
+/// The words that a raw table has beyond its columns.
+pub const RESERVED: usize = 130;
+
+/// A table as a plain struct of words in columns, as it crosses a C boundary.
 ///
 /// State s has its sort at s (0 end, 1 sends, 2 receives). Branch b has its owner, target, field count and label (eight bytes,
-/// high byte first) at b; field f of branch b stands at 4b + f: its kind (0 int, 1 text, 2 flag), and low and high as the value
-/// plus 2^31. Entries beyond the counts mean nothing.
+/// high byte first, in two words) at b; field f of branch b stands at 4b + f: its kind (0 int, 1 text, 2 flag), and low and high as
+/// the value plus 2^31. Entries beyond the counts mean nothing, and the reserved words never do.
 #[repr(C)]
 #[derive(Clone, Debug, PartialEq, Eq)]
 pub struct Raw {
-    pub states: u8,
-    pub branches: u8,
-    pub sort: [u8; MOST_STATES],
-    pub owner: [u8; MOST_BRANCHES],
-    pub target: [u8; MOST_BRANCHES],
-    pub fields: [u8; MOST_BRANCHES],
-    pub label: [u64; MOST_BRANCHES],
-    pub kind: [u8; MOST_FIELDS * MOST_BRANCHES],
+    pub states: u32,
+    pub branches: u32,
+    pub sort: [u32; MOST_STATES],
+    pub owner: [u32; MOST_BRANCHES],
+    pub target: [u32; MOST_BRANCHES],
+    pub fields: [u32; MOST_BRANCHES],
+    pub label_high: [u32; MOST_BRANCHES],
+    pub label_low: [u32; MOST_BRANCHES],
+    pub kind: [u32; MOST_FIELDS * MOST_BRANCHES],
     pub low: [u32; MOST_FIELDS * MOST_BRANCHES],
     pub high: [u32; MOST_FIELDS * MOST_BRANCHES],
+    pub reserved: [u32; RESERVED],
 }
 
 impl Raw {
-    /// The empty table: every column zero.
+    /// The empty table: every word zero.
     pub fn empty() -> Raw {
         Raw {
             states: 0,
@@ -234,36 +239,50 @@ impl Raw {
             owner: [0; MOST_BRANCHES],
             target: [0; MOST_BRANCHES],
             fields: [0; MOST_BRANCHES],
-            label: [0; MOST_BRANCHES],
+            label_high: [0; MOST_BRANCHES],
+            label_low: [0; MOST_BRANCHES],
             kind: [0; MOST_FIELDS * MOST_BRANCHES],
             low: [0; MOST_FIELDS * MOST_BRANCHES],
             high: [0; MOST_FIELDS * MOST_BRANCHES],
+            reserved: [0; RESERVED],
         }
     }
 
-    /// A sound table in columns, every entry beyond the counts zero. An unsound one gives the empty table.
+    /// A sound table in words, every entry beyond the counts zero. An unsound one gives the empty table.
     pub fn of(table: &Table) -> Raw {
         let mut raw = Raw::empty();
         if !sound(table) {
             return raw;
         }
-        raw.states = table.states.len() as u8;
-        raw.branches = table.branches.len() as u8;
+        raw.states = table.states.len() as u32;
+        raw.branches = table.branches.len() as u32;
         for (state, sort) in table.states.iter().enumerate() {
-            raw.sort[state] = sort.code();
+            raw.sort[state] = sort.code().into();
         }
         for (b, branch) in table.branches.iter().enumerate() {
-            raw.owner[b] = branch.owner as u8;
-            raw.target[b] = branch.target as u8;
-            raw.fields[b] = branch.fields.len() as u8;
-            raw.label[b] = u64::from_be_bytes(branch.label);
+            raw.owner[b] = branch.owner as u32;
+            raw.target[b] = branch.target as u32;
+            raw.fields[b] = branch.fields.len() as u32;
+            raw.set_label(b, branch.label);
             for (f, field) in branch.fields.iter().enumerate() {
-                raw.kind[MOST_FIELDS * b + f] = field.kind.code();
+                raw.kind[MOST_FIELDS * b + f] = field.kind.code().into();
                 raw.low[MOST_FIELDS * b + f] = offset(field.low);
                 raw.high[MOST_FIELDS * b + f] = offset(field.high);
             }
         }
         raw
+    }
+
+    /// The label's two words as bytes.
+    pub fn label(&self, b: usize) -> Label {
+        (u64::from(self.label_high[b]) << 32 | u64::from(self.label_low[b])).to_be_bytes()
+    }
+
+    /// The label's bytes in its two words.
+    pub fn set_label(&mut self, b: usize, label: Label) {
+        let word = u64::from_be_bytes(label);
+        self.label_high[b] = (word >> 32) as u32;
+        self.label_low[b] = word as u32;
     }
 
     /// Question 9 of the columns.
@@ -294,36 +313,46 @@ impl Raw {
 
     /// The columns as lists, sound or not; none when a count passes its column or a code is unknown.
     fn lists(&self) -> Option<Table> {
-        let states = self.sort.get(..usize::from(self.states))?;
-        let branches = usize::from(self.branches);
+        let states = self.sort.get(..index(self.states))?;
+        let branches = index(self.branches);
         if branches > MOST_BRANCHES {
             return None;
         }
         Some(Table {
-            states: states.iter().map(|&code| Sort::of_code(code)).collect::<Option<_>>()?,
+            states: states.iter().map(|&word| Sort::of_code(byte(word)?)).collect::<Option<_>>()?,
             branches: (0..branches).map(|b| self.branch(b)).collect::<Option<_>>()?,
         })
     }
 
     fn branch(&self, b: usize) -> Option<Branch> {
-        let count = usize::from(self.fields[b]);
+        let count = index(self.fields[b]);
         if count > MOST_FIELDS {
             return None;
         }
         let field = |f: usize| {
             Some(Field {
-                kind: Kind::of_code(self.kind[MOST_FIELDS * b + f])?,
+                kind: Kind::of_code(byte(self.kind[MOST_FIELDS * b + f])?)?,
                 low: value(self.low[MOST_FIELDS * b + f]),
                 high: value(self.high[MOST_FIELDS * b + f]),
             })
         };
         Some(Branch {
-            owner: usize::from(self.owner[b]),
-            label: self.label[b].to_be_bytes(),
+            owner: index(self.owner[b]),
+            label: self.label(b),
             fields: (0..count).map(field).collect::<Option<_>>()?,
-            target: usize::from(self.target[b]),
+            target: index(self.target[b]),
         })
     }
+}
+
+/// A word as a count or a number of a state.
+fn index(word: u32) -> usize {
+    word as usize
+}
+
+/// A word as a code, which is a byte.
+fn byte(word: u32) -> Option<u8> {
+    u8::try_from(word).ok()
 }
 
 /// The value plus 2^31, for values of 32 bits.

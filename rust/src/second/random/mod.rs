@@ -66,6 +66,16 @@ impl Random {
         self.number().to_be_bytes()[0]
     }
 
+    /// A word that is far from the usual: one that is the number again in its last byte or two, an end of the words, or any.
+    pub fn wide(&mut self, number: u32) -> u32 {
+        match self.below(4) {
+            0 => number.wrapping_add(1 << (8 + self.below(24))),
+            1 => number.wrapping_add(*self.pick(&[0x100, 0x1_0000, 0x100_0000, 0x8000_0000, 0xFFFF_FF00, 0xFFFF_0000])),
+            2 => *self.pick(&[0x100, 0xFFFF, 0x1_0000, 0x7FFF_FFFF, 0x8000_0000, u32::MAX - 1, u32::MAX]),
+            _ => self.number() as u32,
+        }
+    }
+
     /// At most so many bytes of any value.
     pub fn bytes(&mut self, most: usize) -> Vec<u8> {
         let length = self.below(most + 1);

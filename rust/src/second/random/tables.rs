@@ -1,4 +1,4 @@
-//! Tables: sound, damaged in one entry, and any.
+//! Tables: sound, damaged in one entry, with anything where nothing counts, and any.
 
 use super::{fields, label, Random};
 use crate::second::table::{Branch, Label, Raw, Sort, Table, LABEL_BYTES, MOST_BRANCHES, MOST_FIELDS, MOST_STATES};
@@ -59,46 +59,51 @@ pub(super) fn branch_for(random: &mut Random, table: &Table, owner: usize) -> Br
     }
 }
 
-/// The columns of a raw table, by number: states, branches, sort, owner, target, fields, label, kind, low, high.
+/// The columns of a raw table, by number: states, branches, sort, owner, target, fields, label (both words), kind, low, high.
 pub const COLUMNS: usize = 10;
 
 /// The raw table with one entry of a column changed, to a number that is telling there, mostly of an entry that counts. What
 /// comes out is mostly, not always, unsound.
 pub fn damaged_table(random: &mut Random, raw: &Raw, column: usize) -> Raw {
     let mut raw = raw.clone();
-    let states = usize::from(raw.states).min(MOST_STATES);
-    let branches = usize::from(raw.branches).min(MOST_BRANCHES);
+    let (states, branches) = counted(&raw);
     let state = entry(random, states, MOST_STATES);
     let branch = entry(random, branches, MOST_BRANCHES);
-    let count = usize::from(raw.fields[branch]).min(MOST_FIELDS);
-    let place = MOST_FIELDS * branch + entry(random, count, MOST_FIELDS);
-    let small = [0, 1, 2, 3, 4, 5, 31, 32, 33, 64, 127, 128, 129, 254, 255];
-    let near = |random: &mut Random, number: u8| match random.below(3) {
-        0 => number.wrapping_add(1),
-        1 => number.wrapping_sub(1),
-        _ => *random.pick(&small),
-    };
+    let place = MOST_FIELDS * branch + entry(random, fields_of(&raw, branch), MOST_FIELDS);
     match column {
         0 => raw.states = near(random, raw.states),
         1 => raw.branches = near(random, raw.branches),
         2 => raw.sort[state] = near(random, raw.sort[state]),
         3 => raw.owner[branch] = near(random, raw.owner[branch]),
-        4 => raw.target[branch] = *random.pick(&[raw.states, raw.states.wrapping_sub(1), 0, 31, 32, 255]),
+        4 => {
+            let wide = random.wide(raw.target[branch]);
+            raw.target[branch] = *random.pick(&[raw.states, raw.states.wrapping_sub(1), 0, 31, 32, 255, wide]);
+        }
         5 => raw.fields[branch] = near(random, raw.fields[branch]),
         6 => {
-            let mut label = raw.label[branch].to_be_bytes();
+            let mut label = raw.label(branch);
             match random.below(3) {
                 0 => label[random.below(LABEL_BYTES)] = *random.pick(b"\0@AZ[`az{/09: \x01\x80\xC1\xFF"),
-                1 => label = raw.label[entry(random, branches, MOST_BRANCHES)].to_be_bytes(),
+                1 => label = raw.label(entry(random, branches, MOST_BRANCHES)),
                 _ => label = random.number().to_be_bytes(),
             }
-            raw.label[branch] = u64::from_be_bytes(label);
+            raw.set_label(branch, label);
         }
         7 => raw.kind[place] = near(random, raw.kind[place]),
         8 => raw.low[place] = telling_number(random, raw.low[place], raw.high[place]),
         _ => raw.high[place] = telling_number(random, raw.low[place], raw.high[place]),
     }
     raw
+}
+
+/// How many states and branches count, of those that the columns hold.
+fn counted(raw: &Raw) -> (usize, usize) {
+    ((raw.states as usize).min(MOST_STATES), (raw.branches as usize).min(MOST_BRANCHES))
+}
+
+/// How many fields of a branch count, of those that the columns hold.
+fn fields_of(raw: &Raw, branch: usize) -> usize {
+    (raw.fields[branch] as usize).min(MOST_FIELDS)
 }
 
 /// An entry of those that count, now and then any of the column.
@@ -110,40 +115,71 @@ fn entry(random: &mut Random, count: usize, column: usize) -> usize {
     }
 }
 
+/// A number next to this one, at one of the limits, or far out of every range.
+fn near(random: &mut Random, number: u32) -> u32 {
+    match random.below(4) {
+        0 => number.wrapping_add(1),
+        1 => number.wrapping_sub(1),
+        2 => *random.pick(&[0, 1, 2, 3, 4, 5, 31, 32, 33, 64, 127, 128, 129, 254, 255]),
+        _ => random.wide(number),
+    }
+}
+
 /// A number in offset form near the ends of a range or of a kind.
 fn telling_number(random: &mut Random, low: u32, high: u32) -> u32 {
     let ends = [low, high, 0, 0x7FFF_FFFF, 0x8000_0000, 0x8000_0001, 0x8000_0002, 0x8000_0040, 0x8000_0041, 0xFFFF_FFFF];
     random.pick(&ends).wrapping_add(random.pick(&[0, 1, u32::MAX]).to_owned())
 }
 
-/// The raw table with anything in the entries beyond its counts, which mean nothing.
+/// The raw table with anything in the entries beyond its counts and in the reserved words, which mean nothing. Now and then it is
+/// what an entry that counts says.
 pub fn with_noise(random: &mut Random, raw: &Raw) -> Raw {
     let mut raw = raw.clone();
-    for state in usize::from(raw.states)..MOST_STATES {
-        raw.sort[state] = random.byte();
+    let (states, branches) = counted(&raw);
+    for state in states..MOST_STATES {
+        raw.sort[state] = junk(random);
     }
     for b in 0..MOST_BRANCHES {
-        let counts = b < usize::from(raw.branches);
-        if !counts {
-            raw.owner[b] = random.byte();
-            raw.target[b] = random.byte();
-            raw.fields[b] = random.byte();
-            raw.label[b] = random.number();
+        if b >= branches {
+            let like = random.below(branches);
+            let again = branches > 0 && random.one_in(4);
+            raw.owner[b] = if again { raw.owner[like] } else { junk(random) };
+            raw.target[b] = junk(random);
+            raw.fields[b] = junk(random);
+            raw.label_high[b] = if again { raw.label_high[like] } else { junk(random) };
+            raw.label_low[b] = if again { raw.label_low[like] } else { junk(random) };
         }
-        let from = if counts { usize::from(raw.fields[b]) } else { 0 };
+        let from = if b < branches { fields_of(&raw, b) } else { 0 };
         for place in MOST_FIELDS * b + from..MOST_FIELDS * (b + 1) {
-            raw.kind[place] = random.byte();
-            raw.low[place] = random.number() as u32;
-            raw.high[place] = random.number() as u32;
+            raw.kind[place] = junk(random);
+            raw.low[place] = junk(random);
+            raw.high[place] = junk(random);
         }
     }
+    raw.reserved.fill_with(|| junk(random));
     raw
 }
 
-/// Columns of any numbers: hardly ever sound.
+/// Any word; a small one half of the time.
+fn junk(random: &mut Random) -> u32 {
+    let word = random.number() as u32;
+    if random.one_in(2) {
+        word >> 24
+    } else {
+        word
+    }
+}
+
+/// Any words: hardly ever a sound table.
 pub fn any_raw(random: &mut Random) -> Raw {
     let mut raw = with_noise(random, &Raw::empty());
-    raw.states = random.byte() % 40;
-    raw.branches = random.byte();
+    raw.states = junk(random);
+    raw.branches = junk(random);
+    match random.below(4) {
+        0 => {}
+        1 => raw.states %= 40,
+        2 => raw.branches %= 130,
+        _ => (raw.states, raw.branches) = (raw.states % 40, raw.branches % 130),
+    }
     raw
 }

@@ -1,4 +1,0 @@
-pub mod Sides
-pub mod Advance
-pub mod Due
-pub mod Answers

@@ -1,0 +1,43 @@
+-- Over the codes of a state and a side, a step is the monitor's own: the same verdict, state and output, in codes.
+-- Assumes nothing.
+use mathlib.Core.Path.{_≡_, refl, ap}
+use mathlib.Core.List.{List}
+use mathlib.Core.Option.{some}
+use Prim.Native.Nat.{ℕ}
+use Rattle.table.specs.View.{Words}
+use Rattle.monitor.specs.declared.Party.{Party}
+use Rattle.monitor.specs.declared.Party.the-variants.{Device, Host}
+use Rattle.monitor.specs.declared.Standing.{Standing}
+use Rattle.monitor.specs.declared.Standing.the-variants.{Running, DeviceBlamed, HostBlamed}
+use Rattle.monitor.specs.declared.State.{State}
+use Rattle.monitor.specs.Step.{Stepping, refusing, blaming, forwarding, stepping}
+use Rattle.monitor.proofs.Asking.{Way, refuses, forwards, blames, way}
+use Rattle.sojimu.specs.Codes.{sideOf, partyCode, standingCode, standingOf, stateOf, stateBytes, verdictCodes}
+use Rattle.sojimu.specs.Calls.{said-by, bytes-after, crossing, step-codes}
+
+party-same : (side : Party) → sideOf (partyCode side) ≡ some side
+party-same Device = refl
+party-same Host = refl
+
+standing-same : (x : Standing) → standingOf (standingCode x) ≡ x
+standing-same Running = refl
+standing-same DeviceBlamed = refl
+standing-same HostBlamed = refl
+
+state-same : (s : State) → stateOf (s .position) (standingCode (s .standing)) ≡ s
+state-same s = ap (λ (x : Standing). let r : State = record { position = s .position; standing = x } in r) (standing-same (s .standing))
+
+module _ (t : Words) (s : State) (side : Party) (message out : List ℕ) where
+  -- a refusal leaves the state as it was, so its bytes are those of the state after it, too
+  bytes-same : (r : Stepping) → Way t s side message out r → bytes-after (r .verdict) (r .state) (stateBytes s) ≡ stateBytes (r .state)
+  unfolding bytes-after refusing blaming forwarding
+  bytes-same r (refuses q e n) = refl
+  bytes-same r (forwards e j h) = refl
+  bytes-same r (blames e j h n) = refl
+
+  pub codes-step : step-codes t (stateBytes s) (partyCode side) message out
+      ≡ (verdictCodes (stepping t s side message out .verdict), stateBytes (stepping t s side message out .state), stepping t s side message out .output)
+  unfolding step-codes crossing said-by
+  codes-step =
+      rw (party-same side, state-same s)
+      (ap (λ (b : List ℕ). (verdictCodes (stepping t s side message out .verdict), b, stepping t s side message out .output)) (bytes-same (stepping t s side message out) (way t s side message out)))

@@ -1,0 +1,60 @@
+-- The fit check's codes are those of one answer only: a field that is shown high is one of at most four, so its code is not 255.
+-- Assumes nothing.
+use mathlib.Core.Path.{_≡_, refl, ap, ap₂}
+use mathlib.Core.Bool.{Bool, true, false, _&&_, false≢true}
+use mathlib.Core.List.{List, [], _∷_}
+use mathlib.Core.Option.{Option, none, some}
+use Prim.Native.Nat.{ℕ, _≤_, _<_}
+use native.Mathlib.Omega.{arith}
+use borrow.Author.Tests.{ltb-true}
+use Rattle.table.specs.Lists.{every}
+use Rattle.table.specs.View.{Words}
+use Rattle.table.proofs.Lists.{both}
+use Rattle.message.specs.Message.{count-of, whole, legal-values, exact, well-formed}
+use Rattle.message.proofs.Reading.{whole-parts}
+use Rattle.fit.specs.Machine.{Move, moves}
+use Rattle.fit.specs.Fit.{last-count, named}
+use Rattle.fit.specs.Answer.{Answer, refused, fits, fails, Failed, Answered}
+use Rattle.sojimu.specs.declared.fits.Fit.{Fit}
+use Rattle.sojimu.specs.Codes.{highCode, fitCodes}
+
+few : (bytes : List ℕ) → well-formed bytes ≡ true → count-of bytes ≤ 4
+unfolding well-formed
+few bytes e = whole-parts bytes (first (whole bytes) (legal-values bytes) (exact bytes) e) .few
+  where
+    first : (a b c : Bool) → (a && b && c) ≡ true → a ≡ true
+    first true b c e = refl
+    first false b c e = absurd (false≢true e)
+
+last-few : (vs : List Move) → moves vs ≡ true → last-count vs ≤ 4
+unfolding moves every last-count
+last-few [] e = omega arith
+last-few (v ∷ []) e = few (v .bytes) (both (well-formed (v .bytes)) true e .0)
+last-few (v ∷ w ∷ vs) e = last-few (w ∷ vs) (both (well-formed (v .bytes)) (moves (w ∷ vs)) e .1)
+
+module _ (d p : Words) (before : List ℕ) where
+  high-few : (after : List ℕ) (K f : ℕ) → Failed d p before after K (some f) → f < 4
+  unfolding named
+  high-few after K f x =
+      let l = last-few _ (x .failing .real) in
+      let h = ltb-true f _ (x .failing .field-is-there) in
+      omega (arith, l, h)
+
+  same-high : (a b : List ℕ) (K L : ℕ) (h i : Option ℕ) → Failed d p before a K h → Failed d p before b L i → highCode h ≡ highCode i → h ≡ i
+  same-high a b K L none none x y e = refl
+  same-high a b K L none (some i) x y e = absurd (omega (arith, e, high-few b L i y))
+  same-high a b K L (some h) none x y e = absurd (omega (arith, e, high-few a K h x))
+  same-high a b K L (some h) (some i) x y e = ap some e
+
+  pub codes-tell : (a b : List ℕ) (x y : Answer) → Answered d p before a x → Answered d p before b y → fitCodes x ≡ fitCodes y → x ≡ y
+  unfolding Answered
+  codes-tell a b (refused q) (refused q') u v e = ap refused (ap (λ (r : Fit). r .question) e)
+  codes-tell a b (fits c) (fits c') u v e = ap fits (ap (λ (r : Fit). r .count) e)
+  codes-tell a b (fails K h) (fails K' h') u v e =
+      ap₂ fails (ap (λ (r : Fit). r .count) e) (same-high a b K K' h h' u v (ap (λ (r : Fit). r .high) e))
+  codes-tell a b (refused q) (fits c) u v e = absurd (omega (arith, ap (λ (r : Fit). r .outcome) e))
+  codes-tell a b (refused q) (fails K h) u v e = absurd (omega (arith, ap (λ (r : Fit). r .outcome) e))
+  codes-tell a b (fits c) (refused q) u v e = absurd (omega (arith, ap (λ (r : Fit). r .outcome) e))
+  codes-tell a b (fits c) (fails K h) u v e = absurd (omega (arith, ap (λ (r : Fit). r .outcome) e))
+  codes-tell a b (fails K h) (refused q) u v e = absurd (omega (arith, ap (λ (r : Fit). r .outcome) e))
+  codes-tell a b (fails K h) (fits c) u v e = absurd (omega (arith, ap (λ (r : Fit). r .outcome) e))

@@ -1,0 +1,6 @@
+pub mod Lengths
+pub mod Wide
+pub mod Sides
+pub mod Advance
+pub mod Due
+pub mod Answers

@@ -1,0 +1,94 @@
+-- A step in the name of a side whose turn it is not is refused by 9, 10, 11 or 12, so it stands for a code that is no side's.
+-- Assumes nothing.
+use mathlib.Core.Path.{_≡_, refl, sym, ap, _∙_}
+use mathlib.Core.Logic.{⊎-elim}
+use mathlib.Core.Bool.{false}
+use mathlib.Core.List.{List, [], _∷_, _++_}
+use mathlib.Core.Option.{Option, none, some}
+use Prim.Native.Nat.{ℕ, zero, suc}
+use native.Mathlib.Omega.{arith}
+use lib.ListN.{length, getD}
+use Rattle.table.specs.Table.{sort}
+use Rattle.table.specs.View.{view}
+use Rattle.table.specs.View.{Words}
+use Rattle.monitor.specs.declared.Party.{Party}
+use Rattle.monitor.specs.declared.Party.the-variants.{Device, Host}
+use Rattle.monitor.specs.declared.State.{State}
+use Rattle.monitor.specs.declared.Reason.{Reason}
+use Rattle.monitor.specs.declared.Reason.the-variants.{NoLabel, OtherKinds, OutOfRange}
+use Rattle.monitor.specs.declared.Verdict.the-variants.{Blamed}
+use Rattle.monitor.specs.declared.Stepped.{Stepped}
+use Rattle.monitor.specs.Step.{is-party, speaker, first-no, of-state, told, refusing, stepping, stepped}
+use Rattle.monitor.specs.Due.{awaited}
+use Rattle.monitor.proofs.Asking.{zero-or, not-its-turn, stops-there, goes-on, asked-first, asked-then, refused-step}
+use Rattle.sojimu.specs.declared.steps.Verdict.{Verdict}
+use Rattle.sojimu.specs.Codes.{sideOf, stateOf, stateBytes, verdictCodes}
+use Rattle.sojimu.specs.Calls.{said-by, bytes-after, crossing, step-codes}
+use Rattle.sojimu.specs.Inner.{stand-in}
+
+pub no-side : (code : ℕ) → (code ≡ 0 → ⊥) → (code ≡ 1 → ⊥) → sideOf code ≡ none
+no-side zero a b = absurd (a refl)
+no-side (suc zero) a b = absurd (b refl)
+no-side (suc (suc n)) a b = refl
+
+-- where no side speaks, it is not the turn of the one that stands in
+not-awaited : (turn : Option Party) → is-party (stand-in none turn) turn ≡ false
+unfolding stand-in is-party
+not-awaited (some Device) = refl
+not-awaited (some Host) = refl
+not-awaited none = refl
+
+-- 9, 10 and 11, then a no to 12
+abbrev out-of-turn : Words → State → ℕ
+out-of-turn t s = first-no (of-state t s ++ ((12, false) ∷ []))
+
+module _ (t : Words) (s : State) where
+  then-twelve : first-no (of-state t s) ≡ 0 → out-of-turn t s ≡ 12
+  unfolding first-no
+  then-twelve = goes-on t s ((12, false) ∷ [])
+
+  module _ (side : Party) (message out : List ℕ) (h : is-party side (awaited t s) ≡ false) where
+    -- the speaker at the position is not this side
+    not-speaking : first-no (of-state t s) ≡ 0 → is-party side (speaker (sort (view t) (s .position))) ≡ false
+    unfolding awaited
+    not-speaking e = ap (is-party side) (rw e) ∙ h
+
+    out-of-turn-step : stepping t s side message out ≡ refusing (out-of-turn t s) s out
+    out-of-turn-step = ⊎-elim no yes (zero-or (first-no (of-state t s)))
+      where
+        no : (first-no (of-state t s) ≡ 0 → ⊥) → stepping t s side message out ≡ refusing (out-of-turn t s) s out
+        no n =
+            rw (stops-there t s ((12, false) ∷ []) (first-no (of-state t s)) refl n)
+            (refused-step t s side message out (first-no (of-state t s)) (asked-first t s side message (length out) (first-no (of-state t s)) refl n) n)
+
+        yes : first-no (of-state t s) ≡ 0 → stepping t s side message out ≡ refusing (out-of-turn t s) s out
+        yes e =
+            rw (then-twelve e)
+            (refused-step t s side message out 12
+            (asked-then t s side message (length out) e ∙ not-its-turn (sort (view t) (s .position)) side message (length out) (not-speaking e)) (λ z. omega arith))
+
+  pub stands-in : (side : Option Party) (message out : List ℕ) → said-by side t s message out ≡ stepping t s (stand-in side (awaited t s)) message out
+  unfolding said-by stand-in
+  stands-in (some side) message out = refl
+  stands-in none message out = sym (out-of-turn-step (stand-in none (awaited t s)) message out (not-awaited (awaited t s)))
+
+-- a blame is kept, whatever its reason
+pub blame-kept : (side : Party) (why : Reason) (s : State) (bytes : List ℕ) → bytes-after (told (Blamed side why)) s bytes ≡ stateBytes s
+unfolding bytes-after told
+blame-kept side NoLabel s bytes = refl
+blame-kept side OtherKinds s bytes = refl
+blame-kept side (OutOfRange f) s bytes = refl
+
+-- what a step's parts give together
+pub crossed : (t : Words) (s : State) (side : ℕ) (speaker : Party) (bytes message out : List ℕ) (r : Stepped) (verdict : Verdict) (bytes' out' : List ℕ)
+    → s ≡ stateOf (getD bytes 0 0) (getD bytes 1 0)
+    → speaker ≡ stand-in (sideOf side) (awaited t s)
+    → stepped r out' ≡ stepping t s speaker message out
+    → bytes' ≡ bytes-after (told (r .verdict)) (r .state) bytes
+    → verdict ≡ verdictCodes (told (r .verdict))
+    → (verdict, bytes', out') ≡ step-codes t bytes side message out
+unfolding step-codes crossing stepped
+crossed t s side speaker bytes message out r verdict bytes' out' es ep er eb ev =
+    rw (ev, eb)
+    (ap (λ x. crossing x bytes)
+    (er ∙ ap (λ p. stepping t s p message out) ep ∙ sym (stands-in t s (sideOf side) message out) ∙ ap (λ s. said-by (sideOf side) t s message out) es))

@@ -1,0 +1,25 @@
+-- `sojimu::steps::sojimu_raw_step` meets its contract: one law of the parts. Assumes nothing.
+use borrow.Author.Needs.{needs}
+use Rattle.sojimu.proofs.Sides.{crossed}
+use Rattle.sojimu.proofs.steps.sojimu_raw_step.Statement.{statement}
+use Rattle.sojimu.proofs.steps.sojimu_raw_step.Tie as tie
+
+returns : tie.Need-returns
+returns c =
+    let x = c .before .before .before .before .before in
+    let a = x .before .before .before .before .before .before .before .before .args in
+    crossed _ _ (a .side) _ (a .state .now) (a .message .now) (a .out .now) _ _ _ _ (x .before .before .before .state-of .ensures) (x .before .before .speaker-of .ensures) (x .step .ensures) (c .before .keep .ensures) (c .verdict-codes .ensures)
+
+pub sojimu-raw-step-spec : {M : Type 1} → statement M
+sojimu-raw-step-spec =
+    tie.close
+    (tie.spec
+    (λ c. search needs)
+    (λ c. search needs)
+    (λ c κs. search needs)
+    (λ c κs. search needs)
+    (λ c κs. search needs)
+    (λ c κs. search needs)
+    (λ c κs. search needs)
+    (λ c. search needs)
+    returns)

@@ -1,0 +1,66 @@
+-- What the calls that take or give codes do. The other calls' promises are those of the crates below.
+-- Assumes nothing.
+use mathlib.Core.Path.{_≡_}
+use mathlib.Core.Bool.{false}
+use mathlib.Core.List.{List, [], _∷_, _++_}
+use mathlib.Core.Option.{Option, none, some}
+use Prim.Native.Nat.{ℕ, zero, suc}
+use lib.ListN.{length, getD}
+use Rattle.table.specs.View.{Words}
+use Rattle.monitor.specs.declared.Party.{Party}
+use Rattle.monitor.specs.declared.Party.the-variants.{Device, Host}
+use Rattle.monitor.specs.declared.State as M
+use Rattle.monitor.specs.Step.{first-no, of-state, Told, refused, blamed, forwarded, Stepping, refusing, stepping}
+use Rattle.monitor.specs.Due.{Seen, cut, first-length}
+use Rattle.fit.specs.Answer.{Answer, Answered, Demand}
+use Rattle.sojimu.specs.declared.steps.Verdict.{Verdict}
+use Rattle.sojimu.specs.declared.steps.Due.{Due}
+use Rattle.sojimu.specs.declared.fits.Fit.{Fit}
+use Rattle.sojimu.specs.Codes.{sideOf, stateOf, stateBytes, verdictCodes, fitCodes}
+use denote.Ref.{RefT}
+
+-- ---- one step
+
+-- what no side says is never in turn: 9, 10 and 11 are asked, and 12 gets a no
+unfoldable pub said-by : Option Party → Words → M.State → List ℕ → List ℕ → Stepping
+said-by (some side) t s message out = stepping t s side message out
+said-by none t s message out = refusing (first-no (of-state t s ++ ((12, false) ∷ []))) s out
+
+-- the state's two bytes after a step: a refusal leaves them as they were
+unfoldable pub bytes-after : Told → M.State → List ℕ → List ℕ
+bytes-after (refused q) s bytes = bytes
+bytes-after (blamed side n f) s bytes = stateBytes s
+bytes-after forwarded s bytes = stateBytes s
+
+-- the verdict, the state's two bytes, and the output
+unfoldable pub crossing : Stepping → List ℕ → Verdict × List ℕ × List ℕ
+crossing r bytes = (verdictCodes (r .verdict), bytes-after (r .verdict) (r .state) bytes, r .output)
+
+unfoldable pub step-codes : Words → List ℕ → ℕ → List ℕ → List ℕ → Verdict × List ℕ × List ℕ
+step-codes t bytes side message out =
+    crossing (said-by (sideOf side) t (stateOf (getD bytes 0 0) (getD bytes 1 0)) message out) bytes
+
+-- ---- the due part
+
+-- the side whose turn it is, and the length of its first message; nothing of the device's where it is nobody's turn
+unfoldable pub due-codes : Option Party → List ℕ → List ℕ → Due
+due-codes (some Device) device host = record { side = 0; length = first-length device }
+due-codes (some Host) device host = record { side = 1; length = first-length host }
+due-codes none device host = record { side = 0; length = 0 }
+
+-- the part that they name: the first `length` of that side's bytes. It is the due part of document 01 (proofs/Due, due-part)
+unfoldable pub waiting : ℕ → RefT (List ℕ) → RefT (List ℕ) → RefT (List ℕ)
+waiting zero device host = device
+waiting (suc n) device host = host
+
+unfoldable pub part : Due → RefT (List ℕ) → RefT (List ℕ) → Seen
+part r device host = cut (waiting (r .side) device host) (r .length)
+
+-- ---- the fit check
+
+-- the codes are those of an answer that the fit check promises; `before` and `after` are the lent list's numbers
+pub record Checked (d p : Words) (before after : List ℕ) (r : Fit) : Type 0 where
+  pub answer : Answer
+  pub codes : r ≡ fitCodes answer
+  pub answered : Answered d p before after answer
+  pub demand : Demand d p (length before) answer

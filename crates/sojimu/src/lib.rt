@@ -1,0 +1,18 @@
+// The exports for C and Rust (include/sojimu.h): every call of the crates below over numbers, slices and tables that are lent.
+// Enums cross as codes, by the definitions in specs/Codes. No call has a precondition, keeps anything between calls, or changes
+// what it was lent on a refusal. A number that is too large for what it names is refused, and never narrowed.
+ghost use mathlib.Core.Path.{_≡_};
+
+mod fits;
+mod messages;
+mod steps;
+mod tables;
+mod texts;
+
+// The header's number (SOJIMU_VERSION): raised whenever a struct or a call changes.
+#[no_mangle]
+pub extern "C" fn sojimu_version() -> u32
+    ensures { λ r. ⌜ r ≡ 1 ⌝ }
+{
+    1
+}

@@ -1,0 +1,249 @@
+// The monitor: one step over a lent state, whose turn it is, and the due part.
+ghost use mathlib.Core.Path.{_≡_};
+ghost use Rattle.monitor.specs.declared.Verdict.the-variants.{Blamed};
+ghost use Rattle.monitor.specs.Step.{fresh, told};
+ghost use Rattle.monitor.specs.Due.{awaited, turn, first-length};
+ghost use Rattle.sojimu.specs.Codes.{sideOf, partyCode, turnCode, standingCode, standingOf, stateOf, stateCodes, stateBytes, verdictCodes};
+ghost use Rattle.sojimu.specs.Calls.{bytes-after, step-codes, due-codes};
+ghost use Rattle.sojimu.specs.Inner.{stand-in};
+use monitor::Party;
+use monitor::Reason;
+use monitor::Standing;
+use monitor::Stepped;
+use monitor::Turn;
+use table::Table;
+
+// A conversation's state. Standing: 0 running, 1 device blamed, 2 host blamed.
+#[repr(C)]
+pub struct State {
+    pub position: u8,
+    pub standing: u8,
+}
+
+// Outcome: 0 forwarded, 1 refused (question), 2 blamed (party: 0 device, 1 host; reason; field with reason 3).
+#[repr(C)]
+pub struct Verdict {
+    pub outcome: u8,
+    pub question: u8,
+    pub party: u8,
+    pub reason: u8,
+    pub field: u8,
+}
+
+// The side whose bytes the due part is cut from (0 device, 1 host), and how long it is.
+#[repr(C)]
+pub struct Due {
+    pub side: u32,
+    pub length: u32,
+}
+
+#[no_mangle]
+pub extern "C" fn sojimu_fresh() -> State
+    ensures { λ r. ⌜ r ≡ stateCodes fresh ⌝ }
+{
+    let s = monitor::fresh();
+    let standing = s.standing;
+    State {
+        position: s.position,
+        standing: standing_code(standing),
+    }
+}
+
+// One step. The state's two bytes, position and standing, are lent and advanced.
+#[no_mangle]
+pub extern "C" fn sojimu_raw_step(
+    table: &Table,
+    state: &mut [u8; 2],
+    side: u32,
+    message: &[u8],
+    out: &mut [u8],
+) -> Verdict
+    ensures { λ r. ⌜ (r, now (state .exit), now (out .exit))
+        ≡ step-codes (now (table .entry)) (now (state .entry)) side (now (message .entry)) (now (out .entry)) ⌝ }
+{
+    let s = state_of(state[0], state[1]);
+    let speaker = speaker_of(table, s, side);
+    let r = monitor::step(table, s, speaker, message, out);
+    keep(state, r);
+    let verdict = r.verdict;
+    verdict_codes(verdict)
+}
+
+// The side in whose name a step is taken: for a code that is no side's, one whose turn it is not.
+fn speaker_of(table: &Table, s: monitor::State, side: u32) -> Party
+    ensures { λ r. ⌜ r ≡ stand-in (sideOf side) (awaited (now (table .entry)) s) ⌝ }
+{
+    if side == 0 {
+        return Party::Device;
+    }
+    if side == 1 {
+        return Party::Host;
+    }
+    let turn = monitor::whose_turn(table, s);
+    match turn {
+        Turn::Device => Party::Host,
+        Turn::Host => Party::Device,
+        Turn::Nobody => Party::Device,
+    }
+}
+
+// A refusal leaves the two bytes as they were.
+fn keep(state: &mut [u8; 2], r: Stepped)
+    ensures { λ _. ⌜ now (state .exit) ≡ bytes-after (told (r .verdict)) (r .state) (now (state .entry)) ⌝ }
+{
+    let verdict = r.verdict;
+    let next = r.state;
+    match verdict {
+        monitor::Verdict::Refused(_) => {}
+        monitor::Verdict::Blamed(_, _) => put(state, next),
+        monitor::Verdict::Forwarded => put(state, next),
+    }
+}
+
+fn put(state: &mut [u8; 2], s: monitor::State)
+    ensures { λ _. ⌜ now (state .exit) ≡ stateBytes s ⌝ }
+{
+    let standing = s.standing;
+    let position = s.position;
+    let code = standing_code(standing);
+    *state = [position, code];
+}
+
+// Whose turn it is: 0 device, 1 host, 2 nobody.
+#[no_mangle]
+pub extern "C" fn sojimu_turn(table: &Table, state: State) -> u8
+    ensures { λ r. ⌜ r ≡ turnCode (awaited (now (table .entry)) (stateOf (state .position) (state .standing))) ⌝ }
+{
+    let s = state_of(state.position, state.standing);
+    let turn = monitor::whose_turn(table, s);
+    turn_code(turn)
+}
+
+// How long the first message is.
+#[no_mangle]
+pub extern "C" fn sojimu_raw_first_length(bytes: &[u8]) -> usize
+    ensures { λ r. ⌜ r ≡ first-length (now (bytes .entry)) ⌝ }
+{
+    monitor::first_length(bytes)
+}
+
+// The due part, as a side and a length.
+#[no_mangle]
+pub extern "C" fn sojimu_raw_due(table: &Table, state: State, device: &[u8], host: &[u8]) -> Due
+    ensures { λ r. ⌜ r ≡ due-codes (awaited (now (table .entry)) (stateOf (state .position) (state .standing)))
+        (now (device .entry)) (now (host .entry)) ⌝ }
+{
+    let s = state_of(state.position, state.standing);
+    let turn = monitor::whose_turn(table, s);
+    match turn {
+        Turn::Device => first_of(0, device),
+        Turn::Host => first_of(1, host),
+        Turn::Nobody => Due { side: 0, length: 0 },
+    }
+}
+
+// A side's first message.
+fn first_of(side: u32, bytes: &[u8]) -> Due
+    ensures { λ r. ⌜ r ≡ record { side = side; length = first-length (now (bytes .entry)) } ⌝ }
+{
+    let length = monitor::first_length(bytes);
+    Due {
+        side,
+        length: length as u32,
+    }
+}
+
+// ---- codes
+
+fn state_of(position: u8, standing: u8) -> monitor::State
+    ensures { λ r. ⌜ r ≡ stateOf position standing ⌝ }
+{
+    monitor::State {
+        position,
+        standing: standing_of(standing),
+    }
+}
+
+fn standing_of(code: u8) -> Standing
+    ensures { λ r. ⌜ r ≡ standingOf code ⌝ }
+{
+    match code {
+        0 => Standing::Running,
+        1 => Standing::DeviceBlamed,
+        _ => Standing::HostBlamed,
+    }
+}
+
+fn standing_code(standing: Standing) -> u8
+    ensures { λ r. ⌜ r ≡ standingCode standing ⌝ }
+{
+    match standing {
+        Standing::Running => 0,
+        Standing::DeviceBlamed => 1,
+        Standing::HostBlamed => 2,
+    }
+}
+
+fn party_code(party: Party) -> u8
+    ensures { λ r. ⌜ r ≡ partyCode party ⌝ }
+{
+    match party {
+        Party::Device => 0,
+        Party::Host => 1,
+    }
+}
+
+fn turn_code(t: Turn) -> u8
+    ensures { λ r. ⌜ r ≡ turnCode (turn t) ⌝ }
+{
+    match t {
+        Turn::Device => 0,
+        Turn::Host => 1,
+        Turn::Nobody => 2,
+    }
+}
+
+fn verdict_codes(verdict: monitor::Verdict) -> Verdict
+    ensures { λ r. ⌜ r ≡ verdictCodes (told verdict) ⌝ }
+{
+    match verdict {
+        monitor::Verdict::Forwarded => Verdict {
+            outcome: 0,
+            question: 0,
+            party: 0,
+            reason: 0,
+            field: 0,
+        },
+        monitor::Verdict::Refused(question) => Verdict {
+            outcome: 1,
+            question,
+            party: 0,
+            reason: 0,
+            field: 0,
+        },
+        monitor::Verdict::Blamed(party, reason) => blame_codes(party, reason),
+    }
+}
+
+fn blame_codes(party: Party, reason: Reason) -> Verdict
+    ensures { λ r. ⌜ r ≡ verdictCodes (told (Blamed party reason)) ⌝ }
+{
+    let code = party_code(party);
+    match reason {
+        Reason::NoLabel => blame(code, 1, 0),
+        Reason::OtherKinds => blame(code, 2, 0),
+        Reason::OutOfRange(field) => blame(code, 3, field),
+    }
+}
+
+fn blame(party: u8, reason: u8, field: u8) -> Verdict
+    ensures { λ r. ⌜ r ≡ record { outcome = 2; question = 0; party = party; reason = reason; field = field } ⌝ }
+{
+    Verdict {
+        outcome: 2,
+        question: 0,
+        party,
+        reason,
+        field,
+    }
+}

@@ -1,0 +1,21 @@
+// Protocol texts: reading one, and the report of two.
+ghost use mathlib.Core.Path.{_≡_};
+ghost use Rattle.text.specs.Reading.{reads};
+ghost use Rattle.summary.specs.Report.{Written};
+use text::Reading;
+
+// Questions 1 to 8.
+#[no_mangle]
+pub extern "C" fn sojimu_raw_read(text: &[u8]) -> Reading
+    ensures { λ r. ⌜ r ≡ reads (now (text .entry)) ⌝ }
+{
+    text::read(text)
+}
+
+// The report's length; 0 where the buffer does not hold it, and then the buffer is unchanged.
+#[no_mangle]
+pub extern "C" fn sojimu_raw_report(protocol: &[u8], device: &[u8], out: &mut [u8]) -> usize
+    ensures { λ r. ⌜ Written (now (protocol .entry)) (now (device .entry)) (now (out .entry)) (now (out .exit)) r ⌝ }
+{
+    summary::report(protocol, device, out)
+}

@@ -1,0 +1,107 @@
+/* What the test programs share: counted checks, buffers that show what was written, and document 01's P. */
+#include <stdio.h>
+#include <string.h>
+
+#include "sojimu.h"
+
+static unsigned passed, failed;
+
+#define CHECK(claim) check((claim), #claim, __LINE__)
+
+static inline void check(bool holds, const char *claim, int line)
+{
+    if (holds) {
+        passed++;
+    } else {
+        failed++;
+        printf("line %d: %s\n", line, claim);
+    }
+}
+
+/* The last line, and the status. */
+static inline int counts(void)
+{
+    printf("%u passed, %u failed\n", passed, failed);
+    return failed == 0 ? 0 : 1;
+}
+
+/* ---- buffers that show what was written */
+
+enum { ROOM = 320, MARK = 0xA5 };
+
+static uint8_t out[ROOM];
+
+static inline void mark(void)
+{
+    memset(out, MARK, sizeof out);
+}
+
+/* Whether `out` begins with these bytes, and its rest still has its marks. */
+static inline bool opens(const uint8_t *bytes, size_t length)
+{
+    for (size_t i = 0; i < ROOM; i++) {
+        if (out[i] != (i < length ? bytes[i] : MARK)) {
+            return false;
+        }
+    }
+    return true;
+}
+
+static uint16_t list[SOJIMU_LIST];
+
+static inline void mark_list(void)
+{
+    memset(list, MARK, sizeof list);
+}
+
+/* Whether the list has its marks from a place on. */
+static inline bool marked_from(size_t place)
+{
+    for (size_t i = place; i < SOJIMU_LIST; i++) {
+        if (list[i] != MARK * 257) {
+            return false;
+        }
+    }
+    return true;
+}
+
+/* ---- texts and tables */
+
+static const char P[] = "rec X.+{!Ask(int[0..100]).&{?Ok().X},!Quit().end}";
+
+static const uint8_t ASK_100[] = {0x41, 0x73, 0x6B, 0, 0, 0, 0, 0, 1, 0, 0, 0, 0, 0x64};
+
+static const struct sojimu_table empty;
+
+static inline struct sojimu_reading read_text(const char *text)
+{
+    return sojimu_read((const uint8_t *)text, strlen(text));
+}
+
+static inline struct sojimu_table table_of(const char *text)
+{
+    const struct sojimu_reading r = read_text(text);
+    CHECK(r.question == 0 && r.at == 0);
+    CHECK(sojimu_sound(&r.table));
+    return r.table;
+}
+
+static inline bool same_tables(const struct sojimu_table *a, const struct sojimu_table *b)
+{
+    return memcmp(a, b, sizeof *a) == 0;
+}
+
+/* A text that uses all 32 states, all 128 branches and every kind, and stays within its room. */
+static inline size_t largest_text(char *text)
+{
+    size_t n = (size_t)sprintf(text, "rec X.+{");
+    for (int i = 0; i < 31; i++) {
+        n += (size_t)sprintf(text + n, "%s!A%d(text[0..64],int[-2147483648..2147483647],flag[0..1],text[1..64]).&{",
+                             i ? "," : "", i);
+        for (int j = 0; j < (i < 4 ? 4 : 3); j++) {
+            n += (size_t)sprintf(text + n, "%s?B%d(text[0..9]).X", j ? "," : "", j);
+        }
+        n += (size_t)sprintf(text + n, "}");
+    }
+    return n + (size_t)sprintf(text + n, "}");
+}
