@@ -133,6 +133,11 @@ struct sojimu_reading {
     struct sojimu_table table;
 };
 
+/* The same without the table, which the library puts into the place that is lent for it. */
+struct sojimu_told {
+    uint32_t question, at;
+};
+
 /* The dual: question 0 and the table, or 9 and the empty table. */
 struct sojimu_turned {
     uint32_t question;
@@ -183,6 +188,7 @@ SOJIMU_HOLDS(SOJIMU_AT(table, kind, 4 * 674) && SOJIMU_AT(table, low, 4 * 1186) 
 SOJIMU_HOLDS(SOJIMU_AT(table, reserved, 4 * 2210));
 SOJIMU_HOLDS(sizeof(struct sojimu_reading) == 9368 && SOJIMU_AT(reading, question, 0) && SOJIMU_AT(reading, at, 4));
 SOJIMU_HOLDS(SOJIMU_AT(reading, table, 8));
+SOJIMU_HOLDS(sizeof(struct sojimu_told) == 8 && SOJIMU_AT(told, question, 0) && SOJIMU_AT(told, at, 4));
 SOJIMU_HOLDS(sizeof(struct sojimu_turned) == 9364 && SOJIMU_AT(turned, question, 0) && SOJIMU_AT(turned, table, 4));
 SOJIMU_HOLDS(sizeof(struct sojimu_head) == 8 && SOJIMU_AT(head, question, 0) && SOJIMU_AT(head, length, 4));
 SOJIMU_HOLDS(sizeof(struct sojimu_state) == 2 && SOJIMU_AT(state, position, 0) && SOJIMU_AT(state, standing, 1));
@@ -199,7 +205,7 @@ SOJIMU_HOLDS(SOJIMU_AT(fit, count, 8) && SOJIMU_AT(fit, high, 12));
  *
  * These alone take no NULL. Each has an inline function without `raw` below, where it is explained. */
 
-struct sojimu_reading sojimu_raw_read(const uint8_t *text, size_t length);
+struct sojimu_told sojimu_raw_read(const uint8_t *text, size_t length, struct sojimu_table *table);
 size_t sojimu_raw_report(const uint8_t *protocol, size_t protocol_length, const uint8_t *device, size_t device_length,
                          uint8_t *out, size_t room);
 struct sojimu_head sojimu_raw_front(const uint8_t *bytes, size_t length);
@@ -240,7 +246,11 @@ static inline bool sojimu_matches(void)
 /* Reads a protocol text, which need not end in 0x00. Asks 1, then of each token from the left 2 to 8. */
 static inline struct sojimu_reading sojimu_read(const uint8_t *text, size_t length)
 {
-    return sojimu_raw_read(sojimu_lent(text, length), length);
+    struct sojimu_reading reading;
+    const struct sojimu_told told = sojimu_raw_read(sojimu_lent(text, length), length, &reading.table);
+    reading.question = told.question;
+    reading.at = told.at;
+    return reading;
 }
 
 /* The report on a device's text against a protocol's: whether it fits, the moves that show it where it does not, or which text is

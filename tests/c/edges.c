@@ -14,7 +14,6 @@ enum { WIDES = sizeof WIDE / sizeof WIDE[0] };
 /* ---- every byte is determined */
 
 /* The calls whose struct is given back in memory, with the place for it, as the ABI hands it over. */
-void read_into(void *place, const uint8_t *text, size_t length) __asm__("sojimu_raw_read");
 void dual_into(void *place, const struct sojimu_table *table) __asm__("sojimu_dual");
 void empty_into(void *place) __asm__("sojimu_empty");
 
@@ -30,7 +29,7 @@ static __attribute__((noinline)) void litter(uint8_t value)
 /* Whether a call gives the same bytes at places that held others, and none beyond them. */
 static bool determined(void (*give)(void *place), size_t size)
 {
-    static uint8_t one[sizeof(struct sojimu_reading) + 8], two[sizeof(struct sojimu_reading) + 8];
+    static _Alignas(8) uint8_t one[sizeof(struct sojimu_reading) + 8], two[sizeof(struct sojimu_reading) + 8];
     memset(one, 0xAA, sizeof one);
     memset(two, 0x55, sizeof two);
     litter(0xAA);
@@ -40,14 +39,21 @@ static bool determined(void (*give)(void *place), size_t size)
     return memcmp(one, two, size) == 0 && one[size] == 0xAA && two[size] == 0x55;
 }
 
+/* Reading puts the table into a place that is lent for it; what it tells goes before that. */
+static void read_into(struct sojimu_reading *reading, const char *text)
+{
+    const struct sojimu_told told = sojimu_raw_read((const uint8_t *)text, strlen(text), &reading->table);
+    memcpy(reading, &told, sizeof told);
+}
+
 static void give_read(void *place)
 {
-    read_into(place, (const uint8_t *)P, strlen(P));
+    read_into(place, P);
 }
 
 static void give_read_refused(void *place)
 {
-    read_into(place, (const uint8_t *)"rec X.X", 7);
+    read_into(place, "rec X.X");
 }
 
 static void give_dual(void *place)

@@ -1,15 +1,17 @@
 // Protocol texts: reading one, and the report of two.
 ghost use mathlib.Core.Path.{_≡_};
+ghost use Rattle.text.specs.Filled.{given};
 ghost use Rattle.text.specs.Reading.{reads};
 ghost use Rattle.summary.specs.Report.{Written};
-use text::Reading;
+use table::Table;
+use text::Refusal;
 
 // Questions 1 to 8.
 #[no_mangle]
-pub extern "C" fn sojimu_raw_read(text: &[u8]) -> Reading
-    ensures { λ r. ⌜ r ≡ reads (now (text .entry)) ⌝ }
+pub extern "C" fn sojimu_raw_read(text: &[u8], table: &mut Table) -> Refusal
+    ensures { λ r. ⌜ given r (now (table .exit)) ≡ reads (now (text .entry)) ⌝ }
 {
-    text::read(text)
+    text::read(text, table)
 }
 
 // The report's length; 0 where the buffer does not hold it, and then the buffer is unchanged.

@@ -12,7 +12,7 @@ use Rattle.text.specs.Building.{denied}
 use Rattle.text.specs.Token.{tokenAt, tokensFrom, tokens}
 use Rattle.text.specs.Reading.{State, Question, questions, firstNo, asked, taken, run, start, answered, reads}
 use Rattle.text.specs.declared.token.Token.{Token}
-use Rattle.text.specs.declared.Reading.{Reading}
+use Rattle.text.specs.Filled.{Reading}
 use Rattle.text.proofs.Span.{token-spans}
 
 abbrev Small : List (ℕ × Question) → Type 0

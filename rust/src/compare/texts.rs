@@ -29,9 +29,9 @@ fn read(bytes: &[u8], tally: &mut Tally) -> Outcome {
         _ => Err(Refusal { question: Question(question), at }),
     };
     let proved = Table::read(bytes).map(Columns);
-    let given = ffi::read(bytes);
+    let (told, given) = ffi::read(bytes);
     tally.asked(proved.as_ref().err().map(|refusal| refusal.question));
-    let proved = (proved, given.question, given.at, Columns(given.table));
+    let proved = (proved, told.question, told.at, Columns(given));
     tally.same("read", proved, (second, question.into(), at as u32, table), || show::bytes("text", bytes))
 }
 
