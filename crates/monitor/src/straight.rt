@@ -1,5 +1,5 @@
-// The straight way of a message that is allowed, as most are: what a branch of a sound table holds is legal, so that of 13, 14 and
-// 15 only the lengths are left to ask.
+// The straight way of a message that is allowed: what a branch of a sound table holds is legal, so that of 13, 14 and 15 only the
+// lengths are left to ask.
 ghost use mathlib.Core.Path.{_≡_};
 ghost use mathlib.Core.Bool.{true};
 ghost use Prim.Native.Nat.{_<_};

@@ -1,6 +1,6 @@
 // Tables of document 01: question 9 (is it sound?), the dual, and what is asked of one label and of one range.
-// A table is one array of words, which is lent and never copied. The words may be anything: whoever takes a table asks question 9
-// of it first. No call here refuses but the dual: 9, with the empty table, where the table is not sound.
+// A table is one array of words, and it is lent. The words may be anything: each call that takes a table asks question 9 of it before
+// anything else. Here the dual alone can refuse: by 9, with the empty table.
 ghost use mathlib.Core.Path.{_≡_};
 ghost use Prim.Native.Nat.{_<_};
 ghost use Rattle.table.specs.Table.{legal-label, legal-field};
