@@ -1,7 +1,6 @@
 -- The program's table, one list of 32-bit words, seen as a table of lists; and question 9 of document 01.
--- Where each column begins is said here, in the functions `..At`, and in the constants of src/lib.rt, and nowhere else.
--- Only the first `states` and `branches` entries are seen, of branch k the first `fields` at 4 * k.
--- Places 2210 (an edition) and 2211 to 2338 (a share for each branch) are kept free: nothing looks at them.
+-- The layout is told at the constants of src/lib.rt: where each run of words begins is said there, and here in the functions `..At`,
+-- and nowhere else. Only the first `states` and `branches` entries are seen, of branch k the first `fields` at 4 * k.
 -- Assumes nothing.
 use Prim.Native.Nat.{ℕ, zero, suc, _+_, _*_, _/_, _%_}
 use mathlib.Core.Bool.{Bool, true, false, _&&_}
@@ -15,7 +14,7 @@ use Rattle.table.specs.declared.Turned.{Turned}
 abbrev pub Words : Type 0
 Words = List ℕ
 
--- ---- columns
+-- ---- the words
 
 abbrev pub statesOf : List ℕ → ℕ
 statesOf t = getD t 0 0

@@ -25,6 +25,7 @@ pub fn owners(t: &Table, n: usize, m: u32) -> Scan
     places(t, n, m)
 }
 
+// All that is asked of a branch, then the next: for few branches, to begin a pass costs more than the pass.
 fn few(t: &Table, n: usize, m: u32) -> Scan
     requires { ⌜ (n ≤ 128) × (m ≤ 32) ⌝ }
     ensures { λ r. ⌜ Passed (now (t .entry)) n m (r .ok) (r .set) ⌝ }

@@ -29,7 +29,7 @@ pub fn all_legal(t: &Table, n: usize) -> bool
 // and of a first byte that is not in A-Z. A byte that is not 0 is bad where it is such a byte or stands after one; the first byte
 // counts as not 0.
 pub fn bad_bytes(w: u64) -> u64
-    ensures { λ r. ⌜ (clear r ≡ legal-label (labelOf w)) × Word w ⌝ }
+    ensures { λ r. ⌜ clear r ≡ legal-label (labelOf w) ⌝ }
 {
     let small = w | 0x0020_2020_2020_2020;
     let letter = std::num::wrapping_add_u64(small, 0x3F1F_1F1F_1F1F_1F1F)

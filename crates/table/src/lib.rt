@@ -1,6 +1,6 @@
 // Tables of document 01: question 9 (is it sound?), the dual, and what is asked of one label and of one range.
-// A table is one array of words, which is lent and never copied. The words may be anything: whoever takes a table asks question 9
-// of it first. No call here refuses but the dual: 9, with the empty table, where the table is not sound.
+// A table is one array of words, and it is lent. The words may be anything: each call that takes a table asks question 9 of it before
+// anything else. Here the dual alone can refuse: by 9, with the empty table.
 ghost use mathlib.Core.Path.{_≡_};
 ghost use Prim.Native.Nat.{_<_};
 ghost use Rattle.table.specs.Table.{legal-label, legal-field};
@@ -12,14 +12,13 @@ mod branches;
 mod letters;
 mod states;
 
-// The two counts, then a column after another:
-// - sort, one word for each of 32 states: 0 end, 1 sends, 2 receives;
-// - owner, target, number of fields and label, for each of 128 branches. A label is eight bytes, filled up with 0x00, as one number,
-//   high byte first; its high half and its low half are two columns;
-// - kind (0 int, 1 text, 2 flag), low and high for each of 512 fields: field f of branch b stands at 4 * b + f. A number is kept as
-//   value + 2^31, an int's value, a text's length, or 0 and 1 for false and true.
-// Words 2210 to 2339 are room for an edition and for a share of each branch, which nothing looks at; no more is looked at of a
-// column than the counts say.
+// The number of states and that of branches, and then one run of words after another:
+// - 32 sorts, a word for each state: 0 end, 1 sends, 2 receives;
+// - 128 owners, targets, field counts, high and low words of labels. A label is eight bytes, filled up with 0x00; its high word has
+//   the first four, the first of them highest;
+// - 512 kinds (0 int, 1 text, 2 flag), lows and highs: field f of branch b has place 4 * b + f. Numbers are in offset form, 2^31 more
+//   than what they stand for: an int, a text's length in bytes, 0 for false, 1 for true.
+// Words 2210 to 2339 are room for an edition and for a share of each branch. Nothing looks at them, nor at what is beyond the counts.
 pub type Table = [u32; 2340];
 
 pub const STATES: usize = 0;

@@ -8,8 +8,8 @@ ghost use Rattle.table.specs.Scans.{all, Choices};
 use super::Scan;
 use super::Table;
 
-// Whether the first n sorts are known, and the set of the states that are no ends: the last state first, each moves those above it
-// up by one.
+// Whether the first n sorts are known, and the set of the states that are no ends. The last state comes first, and each moves those
+// before it up by one.
 pub fn choices(t: &Table, n: usize) -> Scan
     requires { ⌜ n ≤ 32 ⌝ }
     ensures { λ r. ⌜ (r .ok ≡ all n (λ k. leb (sortAt (now (t .entry)) k) 2)) × (r .ok ≡ true → Choices (now (t .entry)) n (r .set)) ⌝ }

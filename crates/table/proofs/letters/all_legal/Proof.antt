@@ -31,8 +31,8 @@ loop-again c =
     let i = c .before .before .before .loop .inv in (
       search needs,
       search needs,
-      clear-more _ (c .before .before .before .loop .k) (c .before .before .before .loop .bad) (c .bad-bytes .result) (i .2) (c .bad-bytes .ensures .0 ∙ ap (λ w. legal-label (labelOf w)) l),
-      below-more _ _ (i .3) (subst Word l (c .bad-bytes .ensures .1)),
+      clear-more _ (c .before .before .before .loop .k) (c .before .before .before .loop .bad) (c .bad-bytes .result) (i .2) (c .bad-bytes .ensures ∙ ap (λ w. legal-label (labelOf w)) l),
+      below-more _ _ (i .3) (subst Word l (search needs)),
     )
 
 returns : tie.Need-returns Inv-loop μ-loop
