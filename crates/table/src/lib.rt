@@ -86,7 +86,7 @@ struct Scan {
 }
 
 // The label of branch k.
-pub fn label(t: &Table, k: usize) -> u64
+fn label(t: &Table, k: usize) -> u64
     requires { ⌜ k < 128 ⌝ }
     ensures { λ r. ⌜ r ≡ wordAt (now (t .entry)) k ⌝ }
 {
