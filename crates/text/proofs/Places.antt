@@ -1,4 +1,4 @@
--- A refusal's numbers are small: there are eight questions, and its place lies in the text, of which no more than 8,192 bytes are read.
+-- A refusal's numbers are small: there are eight questions, and its place lies in a text of at most 8,192 bytes.
 -- Assumes nothing.
 use mathlib.Core.Path.{_≡_, refl}
 use mathlib.Core.Bool.{Bool, true, false, cond}
