@@ -12,7 +12,8 @@ pub const HIGH_BITS: u64 = 0x8080_8080_8080_8080;
 // Whether the first n labels are legal. Nothing stops this pass early, so that the machine can take several labels at a time.
 pub fn all_legal(t: &Table, n: usize) -> bool
     requires { ⌜ n ≤ 128 ⌝ }
-    ensures { λ r. ⌜ (r ≡ all n (λ k. legal-label (labelOf (wordAt (now (t .entry)) k)))) × ((k : ℕ) → k < n → Word (wordAt (now (t .entry)) k)) ⌝ }
+    ensures { λ r. ⌜ (r ≡ all n (λ k. legal-label (labelOf (wordAt (now (t .entry)) k))))
+        × ((k : ℕ) → k < n → Word (wordAt (now (t .entry)) k)) ⌝ }
 {
     let mut bad: u64 = 0;
     let mut k: usize = 0;

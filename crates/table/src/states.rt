@@ -12,7 +12,8 @@ use super::Table;
 // before it up by one.
 pub fn choices(t: &Table, n: usize) -> Scan
     requires { ⌜ n ≤ 32 ⌝ }
-    ensures { λ r. ⌜ (r .ok ≡ all n (λ k. leb (sortAt (now (t .entry)) k) 2)) × (r .ok ≡ true → Choices (now (t .entry)) n (r .set)) ⌝ }
+    ensures { λ r. ⌜ (r .ok ≡ all n (λ k. leb (sortAt (now (t .entry)) k) 2))
+        × (r .ok ≡ true → Choices (now (t .entry)) n (r .set)) ⌝ }
 {
     let mut set: u32 = 0;
     let mut k = n;
