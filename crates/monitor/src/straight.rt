@@ -11,7 +11,7 @@ use super::judge;
 use table::Table;
 
 // Where a message leads that gets a yes to 12 to 16 and is allowed; 32 for any other.
-pub fn target(t: &Table, position: u8, sort: u32, side: Party, message: &[u8], room: usize) -> u8
+pub fn leads_to(t: &Table, position: u8, sort: u32, side: Party, message: &[u8], room: usize) -> u8
     requires { ⌜ soundOf (now t) ≡ true ⌝ }
     ensures { λ r. ⌜ (r < 32 → Straight (now (t .entry)) position sort side (now (message .entry)) room r) ⌝ }
 {
