@@ -76,8 +76,8 @@ enum {
 /* The stack in bytes that a call of the library needs at most, beside the place for a struct that it gives back, which is its
  * caller's, and what memcpy and memset need. */
 enum {
-    SOJIMU_STACK_READ = 49152,
-    SOJIMU_STACK_REPORT = 81920,
+    SOJIMU_STACK_READ = 16384,
+    SOJIMU_STACK_REPORT = 57344,
     SOJIMU_STACK_DUAL = 12288,
     SOJIMU_STACK_FIT = 6144,
     SOJIMU_STACK_TABLE = 1024, /* every other call that takes a table, a step among them */
