@@ -11,48 +11,49 @@ use Rattle.table.specs.Lists.{every, upto}
 use Rattle.table.specs.Table as T
 use Rattle.table.specs.declared.Turned.{Turned}
 
+-- a raw table
 abbrev pub Words : Type 0
 Words = List ℕ
 
 -- ---- the words
 
-abbrev pub statesOf : List ℕ → ℕ
+abbrev pub statesOf : Words → ℕ
 statesOf t = getD t 0 0
 
-abbrev pub branchesOf : List ℕ → ℕ
+abbrev pub branchesOf : Words → ℕ
 branchesOf t = getD t 1 0
 
 -- a sort's code: 0 end, 1 sends, 2 receives
-abbrev pub sortAt : List ℕ → ℕ → ℕ
+abbrev pub sortAt : Words → ℕ → ℕ
 sortAt t i = getD t (2 + i) 0
 
-abbrev pub ownerAt : List ℕ → ℕ → ℕ
+abbrev pub ownerAt : Words → ℕ → ℕ
 ownerAt t k = getD t (34 + k) 0
 
-abbrev pub targetAt : List ℕ → ℕ → ℕ
+abbrev pub targetAt : Words → ℕ → ℕ
 targetAt t k = getD t (162 + k) 0
 
 -- how many fields
-abbrev pub countAt : List ℕ → ℕ → ℕ
+abbrev pub countAt : Words → ℕ → ℕ
 countAt t k = getD t (290 + k) 0
 
 -- a label's eight bytes as one number, high byte first, of two words
 abbrev pub labelWord : ℕ → ℕ → ℕ
 labelWord high low = high * 4294967296 + low
 
-abbrev pub wordAt : List ℕ → ℕ → ℕ
+abbrev pub wordAt : Words → ℕ → ℕ
 wordAt t k = labelWord (getD t (418 + k) 0) (getD t (546 + k) 0)
 
-abbrev pub kindAt : List ℕ → ℕ → ℕ
+abbrev pub kindAt : Words → ℕ → ℕ
 kindAt t k = getD t (674 + k) 0
 
-abbrev pub lowAt : List ℕ → ℕ → ℕ
+abbrev pub lowAt : Words → ℕ → ℕ
 lowAt t k = getD t (1186 + k) 0
 
-abbrev pub highAt : List ℕ → ℕ → ℕ
+abbrev pub highAt : Words → ℕ → ℕ
 highAt t k = getD t (1698 + k) 0
 
-abbrev pub fieldAt : List ℕ → ℕ → T.Field
+abbrev pub fieldAt : Words → ℕ → T.Field
 fieldAt t k = record { kind = kindAt t k; low = lowAt t k; high = highAt t k }
 
 -- ---- the table
@@ -75,7 +76,7 @@ sortOf zero = T.ends
 sortOf (suc zero) = T.sends
 sortOf (suc (suc n)) = T.receives
 
-abbrev pub branchAt : List ℕ → ℕ → T.Branch
+abbrev pub branchAt : Words → ℕ → T.Branch
 branchAt t k =
     record {
       owner = ownerAt t k;
@@ -84,24 +85,24 @@ branchAt t k =
       target = targetAt t k;
     }
 
-unfoldable pub view : List ℕ → T.Table
+unfoldable pub view : Words → T.Table
 view t = record { sorts = upto (statesOf t) (λ i. sortOf (sortAt t i)); branches = upto (branchesOf t) (branchAt t) }
 
 -- what only a raw table can break and `view` does not show: a sort's code that is none
-unfoldable pub known : List ℕ → Bool
+unfoldable pub known : Words → Bool
 known t = every (λ c. leb c 2) (upto (statesOf t) (sortAt t))
 
 -- question 9: is the table sound?
-unfoldable pub soundOf : List ℕ → Bool
+unfoldable pub soundOf : Words → Bool
 soundOf t = known t && T.sound (view t)
 
 -- question 9 where a position is given: is it one of the table's states, too?
-unfoldable pub soundAt : List ℕ → ℕ → Bool
+unfoldable pub soundAt : Words → ℕ → Bool
 soundAt t position = soundOf t && ltb position (statesOf t)
 
 -- ---- the dual
 
-unfoldable pub emptyTable : List ℕ
+unfoldable pub emptyTable : Words
 emptyTable = replicate 2340 0
 
 -- 1 and 2 are exchanged
@@ -118,18 +119,18 @@ opposites (suc n) [] = []
 opposites (suc n) (a ∷ r) = oppositeOf a ∷ opposites n r
 
 -- the first n sorts
-unfoldable pub turnedTo : ℕ → List ℕ → List ℕ
+unfoldable pub turnedTo : ℕ → Words → Words
 turnedTo n [] = []
 turnedTo n (a ∷ []) = a ∷ []
 turnedTo n (a ∷ b ∷ r) = a ∷ b ∷ opposites n r
 
-abbrev pub turned : List ℕ → List ℕ
+abbrev pub turned : Words → Words
 turned t = turnedTo 32 t
 
 -- 0 and the dual; of a table that is not sound 9 and the empty table
-abbrev pub answered : List ℕ → Bool → Turned
+abbrev pub answered : Words → Bool → Turned
 answered t true = record { question = 0; table = turned t }
 answered t false = record { question = 9; table = emptyTable }
 
-unfoldable pub dualOf : List ℕ → Turned
+unfoldable pub dualOf : Words → Turned
 dualOf t = answered t (soundOf t)
