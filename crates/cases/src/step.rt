@@ -1,12 +1,12 @@
 // The step over a lent state, and whether it goes as a line wants it. The file `monitor` says what the numbers are.
 ghost use mathlib.Core.Path.{_≡_};
 ghost use Rattle.monitor.specs.Step.{stepping, stepped};
-use monitor::Party;
 use monitor::Reason;
 use monitor::Standing;
 use monitor::State;
 use monitor::Stepped;
 use monitor::Verdict;
+use table::Party;
 use table::Table;
 
 // Whether a step goes as it should, and the state that it leads to.

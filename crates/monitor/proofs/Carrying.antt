@@ -9,7 +9,7 @@ use native.Mathlib.Omega.{arith}
 use lib.ListN.{length, getD, take}
 use lib.Dec.{leb, ltb, eqb}
 use borrow.Author.Tests.{ltb-true, lt-ltb, leb-true, le-leb, eqb-true, eq-eqb}
-use Rattle.table.specs.Table.{legal-label, legal-field, within-kind, origin}
+use Rattle.table.specs.Table.{legal-label, legal-field, within-kind, origin, is-party, speaker}
 use Rattle.table.specs.View.{branchesOf, ownerAt, targetAt, countAt, wordAt, kindAt, lowAt, highAt, labelOf, sortOf, view, soundOf}
 use Rattle.table.specs.Scans.{legalAt, Word}
 use Rattle.table.proofs.Lists.{both, join}
@@ -17,8 +17,7 @@ use Rattle.table.proofs.Facts.{Facts, sound-facts}
 use Rattle.message.specs.Message.{number-at, count-of, announced, legal-value, exact, refusal, well-formed, label-word}
 use Rattle.message.specs.Judge.{judge}
 use Rattle.message.proofs.Reading.{value-at, label-of-word, Whole, parts-whole, well-formed-exactly}
-use Rattle.monitor.specs.declared.Party.{Party}
-use Rattle.monitor.specs.Step.{is-party, speaker}
+use Rattle.table.specs.declared.Party.{Party}
 use Rattle.monitor.specs.Leaves.{named, First, Carried, Straight}
 use Rattle.monitor.proofs.Asking.{all-well}
 use Rattle.monitor.proofs.ByPlaces.{allowed-here}

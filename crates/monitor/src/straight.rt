@@ -5,9 +5,9 @@ ghost use mathlib.Core.Bool.{true};
 ghost use Prim.Native.Nat.{_<_};
 ghost use Rattle.table.specs.View.{soundOf};
 ghost use Rattle.monitor.specs.Leaves.{Facing, Carried, Straight};
-use super::Party;
 use super::ask;
 use super::judge;
+use table::Party;
 use table::Table;
 
 // Where a message leads that gets a yes to 12 to 16 and is allowed; 32 for any other.

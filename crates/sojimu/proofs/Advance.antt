@@ -5,8 +5,8 @@ use mathlib.Core.List.{List}
 use mathlib.Core.Option.{some}
 use Prim.Native.Nat.{ℕ}
 use Rattle.table.specs.View.{Words}
-use Rattle.monitor.specs.declared.Party.{Party}
-use Rattle.monitor.specs.declared.Party.the-variants.{Device, Host}
+use Rattle.table.specs.declared.Party.{Party}
+use Rattle.table.specs.declared.Party.the-variants.{Device, Host}
 use Rattle.monitor.specs.declared.Standing.{Standing}
 use Rattle.monitor.specs.declared.Standing.the-variants.{Running, DeviceBlamed, HostBlamed}
 use Rattle.monitor.specs.declared.State.{State}

@@ -5,8 +5,8 @@ use mathlib.Core.List.{List}
 use mathlib.Core.Option.{Option, none, some}
 use Prim.Native.Nat.{ℕ}
 use Rattle.table.specs.View.{Words}
-use Rattle.monitor.specs.declared.Party.{Party}
-use Rattle.monitor.specs.declared.Party.the-variants.{Device, Host}
+use Rattle.table.specs.declared.Party.{Party}
+use Rattle.table.specs.declared.Party.the-variants.{Device, Host}
 use Rattle.monitor.specs.declared.State.{State}
 use Rattle.monitor.specs.Due.{awaited, due-at, due}
 use Rattle.sojimu.specs.Calls.{due-codes, waiting, part}

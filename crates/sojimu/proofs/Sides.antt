@@ -8,17 +8,18 @@ use mathlib.Core.Option.{Option, none, some}
 use Prim.Native.Nat.{ℕ, zero, suc}
 use native.Mathlib.Omega.{arith}
 use lib.ListN.{length, getD}
-use Rattle.table.specs.Table.{sort}
+use Rattle.table.specs.Table.{sort, is-party, speaker}
 use Rattle.table.specs.View.{view}
 use Rattle.table.specs.View.{Words}
-use Rattle.monitor.specs.declared.Party.{Party}
-use Rattle.monitor.specs.declared.Party.the-variants.{Device, Host}
+use Rattle.table.specs.declared.Party.{Party}
+use Rattle.table.specs.declared.Party.the-variants.{Device, Host}
 use Rattle.monitor.specs.declared.State.{State}
 use Rattle.monitor.specs.declared.Reason.{Reason}
 use Rattle.monitor.specs.declared.Reason.the-variants.{NoLabel, OtherKinds, OutOfRange}
 use Rattle.monitor.specs.declared.Verdict.the-variants.{Blamed}
 use Rattle.monitor.specs.declared.Stepped.{Stepped}
-use Rattle.monitor.specs.Step.{is-party, speaker, first-no, of-state, told, refusing, stepping, stepped}
+use Rattle.monitor.specs.Step.{of-state, told, refusing, stepping, stepped}
+use Rattle.table.specs.Lists.{first-no}
 use Rattle.monitor.specs.Due.{awaited}
 use Rattle.monitor.proofs.Asking.{zero-or, not-its-turn, stops-there, goes-on, asked-first, asked-then, refused-step}
 use Rattle.sojimu.specs.declared.steps.Verdict.{Verdict}

@@ -7,10 +7,11 @@ use mathlib.Core.Option.{Option, none, some}
 use Prim.Native.Nat.{ℕ, zero, suc}
 use lib.ListN.{length, getD}
 use Rattle.table.specs.View.{Words}
-use Rattle.monitor.specs.declared.Party.{Party}
-use Rattle.monitor.specs.declared.Party.the-variants.{Device, Host}
+use Rattle.table.specs.declared.Party.{Party}
+use Rattle.table.specs.declared.Party.the-variants.{Device, Host}
 use Rattle.monitor.specs.declared.State as M
-use Rattle.monitor.specs.Step.{first-no, of-state, Told, refused, blamed, forwarded, Stepping, refusing, stepping}
+use Rattle.monitor.specs.Step.{of-state, Told, refused, blamed, forwarded, Stepping, refusing, stepping}
+use Rattle.table.specs.Lists.{first-no}
 use Rattle.monitor.specs.Due.{Seen, cut, first-length}
 use Rattle.fit.specs.Answer.{Answer, Answered, Demand}
 use Rattle.sojimu.specs.declared.steps.Verdict.{Verdict}

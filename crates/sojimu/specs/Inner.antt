@@ -6,8 +6,8 @@ use mathlib.Core.Option.{Option, none, some}
 use Prim.Native.Nat.{ℕ}
 use Rattle.table.specs.View.{Words}
 use Rattle.message.specs.Make.{making}
-use Rattle.monitor.specs.declared.Party.{Party}
-use Rattle.monitor.specs.declared.Party.the-variants.{Device, Host}
+use Rattle.table.specs.declared.Party.{Party}
+use Rattle.table.specs.declared.Party.the-variants.{Device, Host}
 
 -- the side in whose name a step is taken: where no side speaks, one whose turn it is not
 unfoldable pub stand-in : Option Party → Option Party → Party

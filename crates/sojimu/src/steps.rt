@@ -6,11 +6,11 @@ ghost use Rattle.monitor.specs.Due.{awaited, turn, first-length};
 ghost use Rattle.sojimu.specs.Codes.{sideOf, partyCode, turnCode, standingCode, standingOf, stateOf, stateCodes, stateBytes, verdictCodes};
 ghost use Rattle.sojimu.specs.Calls.{bytes-after, step-codes, due-codes};
 ghost use Rattle.sojimu.specs.Inner.{stand-in};
-use monitor::Party;
 use monitor::Reason;
 use monitor::Standing;
 use monitor::Stepped;
 use monitor::Turn;
+use table::Party;
 use table::Table;
 
 // A conversation's state. Standing: 0 running, 1 device blamed, 2 host blamed.

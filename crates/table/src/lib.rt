@@ -12,6 +12,11 @@ mod branches;
 mod letters;
 mod states;
 
+pub enum Party {
+    Device,
+    Host,
+}
+
 // The number of states and that of branches, and then one run of words after another:
 // - 32 sorts, a word for each state: 0 end, 1 sends, 2 receives;
 // - 128 owners, targets, field counts, high and low words of labels. A label is eight bytes, filled up with 0x00; its high word has
