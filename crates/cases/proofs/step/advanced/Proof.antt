@@ -52,8 +52,8 @@ use denote.Struct.Laws as LL
 use denote.Enum.Laws as EL
 use Rattle.monitor.proofs.State as S
 use Rattle.monitor.proofs.State.Laws as S′
-use Rattle.monitor.proofs.Party as P
-use Rattle.monitor.proofs.Party.Laws as P′
+use Rattle.table.proofs.Party as P
+use Rattle.table.proofs.Party.Laws as P′
 use Rattle.monitor.proofs.Verdict as J
 use Rattle.monitor.proofs.Verdict.Laws as J′
 use Rattle.monitor.proofs.Stepped as R
