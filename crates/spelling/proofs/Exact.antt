@@ -2,23 +2,20 @@
 -- Assumes nothing.
 use mathlib.Core.Path.{_≡_, refl}
 use mathlib.Core.Bool.{Bool, _&&_}
-use mathlib.Core.Logic.{_↔_}
 use mathlib.Core.List.{List, [], _∷_}
 use Prim.Native.Nat.{ℕ, _+_, _-_, _*_, _≤_}
 use native.Mathlib.Omega.{arith}
 use lib.Dec.{leb}
-use lib.ListN.{length}
 use borrow.Author.Tests.{leb-true}
 use Rattle.table.specs.Lists.{every}
 use Rattle.table.proofs.Lists.{both, join, never}
 use Rattle.text.specs.Number.{valueOf}
-use Rattle.text.specs.Reading.{reads}
 use Rattle.text.specs.Filled.{out, filled}
-use Rattle.text.specs.Grammar.{text-limit, Field, Ty, stop, var, loop, choice, Br, last, also, Tok, sign, arrow, printMore, printFields, print, printBr, printText, tableOf, Legal}
+use Rattle.text.specs.Grammar.{Field, Ty, stop, var, loop, choice, Br, last, also, Tok, sign, arrow, printMore, printFields, print, printBr, tableOf}
 use Rattle.text.proofs.Bytes.{upper-word}
 use Rattle.text.proofs.Packed.{label-word}
 use Rattle.spelling.specs.Spelling.{digit, Digits, Spells, a-sign, a-dot, a-word, a-name, a-zero, a-number, a-negative, Spelt, ran-out, a-blank, a-token}
-use Rattle.spelling.specs.Speller.{spell, Writable, OfFields, Of, OfBr, Spellable}
+use Rattle.spelling.specs.Speller.{spell, Writable, OfFields, Of, OfBr}
 use Rattle.spelling.specs.Theorems.{SpellableExactly, SpellRead}
 use Rattle.spelling.proofs.Read.{read-spelt}
 use Rattle.spelling.proofs.Spell.{spell-spelt}
@@ -38,7 +35,7 @@ positive b w h z =
     let n = h .1 in
     omega (arith, value-ge w (0 * 10 + (b - 48)))
 
-spells-writable : {t : Tok} {w : List ℕ} {more : ℕ → Bool} → Spells t w more → Writable t
+pub spells-writable : {t : Tok} {w : List ℕ} {more : ℕ → Bool} → Spells t w more → Writable t
 unfolding every
 spells-writable (a-sign l) = tt
 spells-writable (a-dot l) = tt
@@ -52,7 +49,7 @@ spells-writable (a-number h) = λ e z. never e refl
 spells-writable (a-negative {w = []} h) = absurd h
 spells-writable (a-negative {w = b ∷ w} h) = λ e z. positive b w h z
 
-abbrev Written : List Tok → Type 0
+abbrev pub Written : List Tok → Type 0
 Written [] = Unit {0}
 Written (t ∷ ts) = Writable t × Written ts
 
@@ -70,7 +67,7 @@ fields-written [] ts w = (tt, w .1)
 fields-written (f ∷ fs) ts w = let a = more-written fs ts (w .1 .1 .1 .1 .1 .1) in ((w .1 .1 .0, (w .1 .1 .1 .1 .0, a .0)), a .1)
 
 mutual
-  print-written : (t : Ty) (ts : List Tok) → Written (print t ts) → Of Writable t × Written ts
+  pub print-written : (t : Ty) (ts : List Tok) → Written (print t ts) → Of Writable t × Written ts
   print-written stop ts w = (tt, w .1)
   print-written (var x) ts w = (w .0, w .1)
   print-written (loop x t) ts w = let a = print-written t ts (w .1 .1 .1) in ((w .1 .0, a .0), a .1)

@@ -8,3 +8,5 @@ pub mod Spell
 pub mod Names
 pub mod Exact
 pub mod Examples
+pub mod Alike
+pub mod Refused

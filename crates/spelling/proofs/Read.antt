@@ -1,16 +1,14 @@
 -- A text is read exactly when it spells a legal type. (Document 01, "Protocol text".)
 -- Assumes nothing.
-use mathlib.Core.Path.{_≡_, sym, ap, _∙_}
+use mathlib.Core.Path.{sym, ap, _∙_}
 use mathlib.Core.Logic.{_↔_}
 use mathlib.Core.List.{List, [], _∷_}
 use Prim.Native.Nat.{ℕ, _≤_}
 use native.Mathlib.Omega.{arith}
 use lib.ListN.{length}
-use Rattle.table.specs.View.{view}
 use Rattle.table.proofs.Lists.{never}
-use Rattle.text.specs.Reading.{reads}
 use Rattle.text.specs.Token.{oneOf}
-use Rattle.text.specs.Grammar.{text-limit, Ty, Tok, sign, printText, Writes, tableOf, Legal}
+use Rattle.text.specs.Grammar.{text-limit, Ty, Tok, sign, printText, Writes}
 use Rattle.text.proofs.Toks.{tag, sign-in}
 use Rattle.text.proofs.Exactly.{read-exactly, read-seen}
 use Rattle.spelling.specs.Spelling.{Spelt}

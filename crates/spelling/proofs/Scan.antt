@@ -1,7 +1,7 @@
 -- What a text spells is what the scanner finds, where no token is malformed. Assumes nothing.
 use mathlib.Core.Path.{_≡_, refl, sym, subst, ap, ap₂, _∙_}
 use mathlib.Core.Bool.{cond, Bool, true, false}
-use mathlib.Core.Logic.{inl, inr, _↔_}
+use mathlib.Core.Logic.{inl, inr}
 use mathlib.Core.List.{List, [], _∷_, _++_, map}
 use Prim.Native.Nat.{ℕ, zero, suc, _+_, _-_, _≤_, _<_}
 use Prim.Native.String.{String}
@@ -9,9 +9,9 @@ use native.Mathlib.Omega.{arith}
 use lib.Dec.{eqb, leb}
 use lib.ListN.{length, drop, getD, length-drop}
 use borrow.Author.Tests.{eq-eqb, ne-eqb, eqb-true, eqb-false, le-leb, lt-leb, leb-true}
-use Rattle.table.specs.Lists.{every, same, matched}
+use Rattle.table.specs.Lists.{every, same}
 use Rattle.table.specs.Table.{upper, letter-or-digit}
-use Rattle.table.proofs.Lists.{both, join, never}
+use Rattle.table.proofs.Lists.{both, join}
 use Rattle.text.specs.Token.{isSpace, classOf, runEnd, token, wordKind, wordAt, nameAt, numberKind, numberAt, dotsAt, beginAt, tokenAt, tokensFrom, tokens}
 use Rattle.text.specs.Grammar.{Tok, number, sign, tokOf}
 use Rattle.text.specs.declared.token.Class.{Class}

@@ -4,4 +4,5 @@ pub mod Spelling
 pub mod Places
 pub mod Speller
 pub mod Theorems
+pub mod Refusals
 pub mod Examples
