@@ -7,12 +7,14 @@ use mathlib.Core.List.{List, [], _∷_, _++_, map}
 use Prim.Native.Nat.{ℕ}
 use lib.Dec.{eqb, ltb}
 use borrow.Author.Tests.{eqb-true, eqb-false}
+use Rattle.table.specs.Lists.{first-no}
+use Rattle.text.proofs.Asked.{asked}
 use Rattle.table.specs.Table.{Table}
 use Rattle.text.specs.Token.{wordIn}
 use Rattle.text.specs.Number.{Signed, signedIn, offset, inKind}
 use Rattle.text.specs.Grammar.{Tok, word, number, sign, tokOf, or-else}
-use Rattle.text.specs.Building.{hasLabel, denied}
-use Rattle.text.specs.Reading.{Item, just, name, label, type, more, fields, field, low, high, moreFields, Open, State, state, openIn, tableIn, next, meaning, ownerIn, allows, asType, isFound, inRange, asLabel, wellFormed, allowed, bound, guarded, ranged, fresh, within, asked, target, began, taken, run}
+use Rattle.text.specs.Building.{label-used, denied}
+use Rattle.text.specs.Reading.{Item, just, name, label, type, more, fields, field, low, high, moreFields, Open, State, state, openIn, tableIn, next, meaning, ownerIn, admits, asType, isFound, inRange, asLabel, wellFormed, allowed, bound, guarded, ranged, new-label, within, target, began, taken, run, questions}
 use Rattle.text.specs.declared.token.Token.{Token}
 use Rattle.text.proofs.Toks.{word-kind, number-kind, kind-word, kind-number}
 use Rattle.text.proofs.Goes.{first-is, rest-is, never-empty, passed}
@@ -63,7 +65,7 @@ module _ (s u : List ℕ) (k j : Token) (same : tokOf s k ≡ tokOf u j) where
   bound-same (high κ l) O = refl
   bound-same moreFields O = refl
 
-  range-same : (i : Item) → allows i (k .kind) ≡ true → inRange s k i ≡ inRange u j i
+  range-same : (i : Item) → admits i (k .kind) ≡ true → inRange s k i ≡ inRange u j i
   range-same (just n) a = refl
   range-same name a = refl
   range-same label a = refl
@@ -75,11 +77,11 @@ module _ (s u : List ℕ) (k j : Token) (same : tokOf s k ≡ tokOf u j) where
   range-same (high κ l) a = ap (λ (n : Signed). inKind κ n && not (ltb (offset n) l)) (number-same a)
   range-same moreFields a = refl
 
-  label-same : (i : Item) (T : Table) (o : ℕ) → allows i (k .kind) ≡ true
-      → cond (asLabel i) (not (hasLabel T o (wordIn s k))) true ≡ cond (asLabel i) (not (hasLabel T o (wordIn u j))) true
+  label-same : (i : Item) (T : Table) (o : ℕ) → admits i (k .kind) ≡ true
+      → cond (asLabel i) (not (label-used T o (wordIn s k))) true ≡ cond (asLabel i) (not (label-used T o (wordIn u j))) true
   label-same (just n) T o a = refl
   label-same name T o a = refl
-  label-same label T o a = ap (λ (x : ℕ). not (hasLabel T o x)) (word-same a)
+  label-same label T o a = ap (λ (x : ℕ). not (label-used T o x)) (word-same a)
   label-same type T o a = refl
   label-same (more σ) T o a = refl
   label-same fields T o a = refl
@@ -108,8 +110,8 @@ module _ (s u : List ℕ) (k j : Token) (same : tokOf s k ≡ tokOf u j) where
   unfolding allowed ranged
   ranged-same st a = range-same (next st) a
 
-  new-same : (st : State) → allowed s st k ≡ true → fresh s st k ≡ fresh u st j
-  unfolding allowed fresh
+  new-same : (st : State) → allowed s st k ≡ true → new-label s st k ≡ new-label u st j
+  unfolding allowed new-label
   new-same st a = label-same (next st) (tableIn st) (ownerIn (openIn st)) a
 
   within-same : (st : State) → within s st k ≡ within u st j
@@ -117,11 +119,11 @@ module _ (s u : List ℕ) (k j : Token) (same : tokOf s k ≡ tokOf u j) where
   within-same st = rw kind-same
 
   asked-same : (st : State) → asked s st k ≡ asked u st j
-  unfolding asked
+  unfolding first-no questions
   asked-same st =
       rw (formed-same st, named-same st, guarded-same st, within-same st)
       (behind (wellFormed u st j) (λ r n. cond (bound u st j) (cond (guarded u st j) (cond r (cond n (cond (within u st j) 0 8) 7) 6) 5) 4)
-      (allowed s st k) (allowed u st j) (ranged s st k) (ranged u st j) (fresh s st k) (fresh u st j) (allowed-same st) (ranged-same st) (new-same st))
+      (allowed s st k) (allowed u st j) (ranged s st k) (ranged u st j) (new-label s st k) (new-label u st j) (allowed-same st) (ranged-same st) (new-same st))
     where
       -- after 3, what is asked may go by 3
       behind : (w : Bool) (f : Bool → Bool → ℕ) (a b r q n m : Bool) → a ≡ b → (a ≡ true → r ≡ q) → (a ≡ true → n ≡ m)

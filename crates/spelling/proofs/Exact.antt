@@ -10,7 +10,7 @@ use borrow.Author.Tests.{leb-true}
 use Rattle.table.specs.Lists.{every}
 use Rattle.table.proofs.Lists.{both, join, never}
 use Rattle.text.specs.Number.{valueOf}
-use Rattle.text.specs.Filled.{out, filled}
+use Rattle.text.specs.Filled.{came-out, filled}
 use Rattle.text.specs.Grammar.{Field, Ty, stop, var, loop, choice, Br, last, also, Tok, sign, arrow, printMore, printFields, print, printBr, tableOf}
 use Rattle.text.proofs.Bytes.{upper-word}
 use Rattle.text.proofs.Packed.{label-word}
@@ -92,4 +92,4 @@ spellable-exactly t = ((λ h. (spell t, spell-spelt t h)), (λ h. print-written 
 
 -- A legal type that can be written is read from the speller's text, if that is not too long.
 pub spell-read : SpellRead
-spell-read t h l m = read-spelt (spell t) (out 0 0 (filled (tableOf t))) .1 (t, m, spell-spelt t h, l, refl) .0
+spell-read t h l m = read-spelt (spell t) (came-out 0 0 (filled (tableOf t))) .1 (t, m, spell-spelt t h, l, refl) .0

@@ -9,10 +9,12 @@ use native.Mathlib.Omega.{arith}
 use lib.Dec.{eqb, leb}
 use lib.ListN.{length, drop, length-drop, length-append}
 use borrow.Author.Tests.{eq-eqb, ne-eqb, eqb-true, eqb-false}
+use Rattle.table.specs.Lists.{first-no}
+use Rattle.text.proofs.Asked.{asked}
 use Rattle.text.specs.Token.{classOf, token, wordAt, nameAt, numberAt, dotsAt, beginAt, tokenAt, tokensFrom, tokens}
 use Rattle.text.specs.Building.{Answer, denied}
 use Rattle.text.specs.Filled.{written}
-use Rattle.text.specs.Reading.{State, start, wellFormed, asked, taken, run, answered, reads}
+use Rattle.text.specs.Reading.{State, start, wellFormed, taken, run, answered, reads, questions}
 use Rattle.text.specs.Grammar.{text-limit, Tok}
 use Rattle.text.specs.declared.token.Class.{Class}
 use Rattle.text.specs.declared.token.Class.the-variants.{Space, Lower, Upper, Digit, Dot, Minus, Sign, Other}
@@ -130,7 +132,7 @@ module _ (s : List ℕ) where
 -- ---- reading asks of no token after a malformed one
 
 asked-bad : (s : List ℕ) (st : State) (k : Token) → eqb (k .kind) 1 ≡ true → asked s st k ≡ 2
-unfolding asked wellFormed
+unfolding first-no questions wellFormed
 asked-bad s st k e = rw e
 
 run-upto : (s : List ℕ) (ks : List Token) (st : State) → run s st ks ≡ run s st (upto-bad ks)

@@ -34,9 +34,9 @@ pub record Examples : Type 0 where
   pub blanks : Spelt (0x0A ∷ 0x20 ∷ ascii "end" ++ (0x0A ∷ [])) (printText stop)
   pub tab : Nothing (0x09 ∷ ascii "end")
   -- a token that begins with a digit takes digits only
-  pub two-tokens : Spelt (ascii "5A") (number (plus 5) ∷ word (name "A") ∷ sign K.out ∷ [])
+  pub two-tokens : Spelt (ascii "5A") (number (plus 5) ∷ word (name "A") ∷ sign K.ran-out ∷ [])
   -- one to eight bytes
-  pub eight : Spelt (ascii "Abcdefg8") (word (name "Abcdefg8") ∷ sign K.out ∷ [])
+  pub eight : Spelt (ascii "Abcdefg8") (word (name "Abcdefg8") ∷ sign K.ran-out ∷ [])
   pub nine : Nothing (ascii "Abcdefgh9")
   -- no minus before 0, no leading zero
   pub minus-zero : Nothing (ascii "-0")

@@ -29,7 +29,7 @@ kindIn (sign k) = k
 
 -- the bytes from the place p on: blanks and tokens, until the text runs out or a byte that is no blank begins nothing named
 pub data Placed : List ℕ → ℕ → List Token → Type 0 where
-  ran-out : {p : ℕ} → Placed [] p (token K.out p p ∷ [])
+  ran-out : {p : ℕ} → Placed [] p (token K.ran-out p p ∷ [])
   malformed : {b p : ℕ} {s : List ℕ} → blank b ≡ false → (Begins (b ∷ s) → ⊥) → Placed (b ∷ s) p (token K.bad p p ∷ [])
   a-blank : {b p : ℕ} {s : List ℕ} {ks : List Token} → blank b ≡ true → Placed s (p + 1) ks → Placed (b ∷ s) p ks
   a-token : {t : Tok} {w s : List ℕ} {more : ℕ → Bool} {p : ℕ} {ks : List Token}

@@ -34,15 +34,15 @@ blank b = eqb b 0x20 || eqb b 0x0A
 
 abbrev pub signs : List (ℕ × String)
 signs =
-    (K.plus, "+") ∷ (K.ampersand, "&") ∷ (K.left-brace, "{") ∷ (K.right-brace, "}") ∷ (K.comma, ",") ∷ (K.send, "!") ∷ (K.receive, "?")
-    ∷ (K.left-paren, "(") ∷ (K.right-paren, ")") ∷ (K.left-bracket, "[") ∷ (K.right-bracket, "]")
+    (K.of "+", "+") ∷ (K.of "&", "&") ∷ (K.of "{", "{") ∷ (K.of "}", "}") ∷ (K.of ",", ",") ∷ (K.of "!", "!") ∷ (K.of "?", "?")
+    ∷ (K.of "(", "(") ∷ (K.of ")", ")") ∷ (K.of "[", "[") ∷ (K.of "]", "]")
     ∷ []
 
 abbrev pub dots : List (ℕ × String)
-dots = (K.dot, ".") ∷ (K.dots, "..") ∷ []
+dots = (K.of ".", ".") ∷ (K.dots, "..") ∷ []
 
 abbrev pub words : List (ℕ × String)
-words = (K.end, "end") ∷ (K.rec, "rec") ∷ (K.int, "int") ∷ (K.text, "text") ∷ (K.flag, "flag") ∷ []
+words = (K.of "end", "end") ∷ (K.of "rec", "rec") ∷ (K.of "int", "int") ∷ (K.of "text", "text") ∷ (K.of "flag", "flag") ∷ []
 
 -- w is what stands beside k in a list
 abbrev pub Listed : List (ℕ × String) → ℕ → List ℕ → Type 0
@@ -78,6 +78,6 @@ Ends more (b ∷ s) = more b ≡ false
 
 -- blanks and tokens in any order, and at last that the text ran out
 pub data Spelt : List ℕ → List Tok → Type 0 where
-  ran-out : Spelt [] (sign K.out ∷ [])
+  ran-out : Spelt [] (sign K.ran-out ∷ [])
   a-blank : {b : ℕ} {s : List ℕ} {ts : List Tok} → blank b ≡ true → Spelt s ts → Spelt (b ∷ s) ts
   a-token : {t : Tok} {w s : List ℕ} {more : ℕ → Bool} {ts : List Tok} → Spells t w more → Ends more s → Spelt s ts → Spelt (w ++ s) (t ∷ ts)

@@ -12,7 +12,7 @@ use Rattle.text.specs.Token.{tokens, wordOf}
 use Rattle.text.specs.Number.{valueOf}
 use Rattle.text.specs.Grammar.{text-limit, Ty, Tok, sign, printText, tokOf, tableOf, Legal}
 use Rattle.text.specs.Building.{denied}
-use Rattle.text.specs.Filled.{Reading, out, filled, padded, written}
+use Rattle.text.specs.Filled.{Reading, came-out, filled, padded, written}
 use Rattle.text.specs.Reading.{start, run, reads}
 use Rattle.text.specs.declared.token.Token.{Token}
 use Rattle.spelling.specs.Spelling.{Name, Spelt}
@@ -43,7 +43,7 @@ abbrev pub ReadExactly : Type 0
 ReadExactly =
     (s : List ℕ) (r : Reading)
     → ((reads s ≡ r) × (r .question ≡ 0))
-    ↔ ((t : Ty) × (length s ≤ text-limit) × Spelt s (printText t) × Legal t × (r ≡ out 0 0 (filled (tableOf t))))
+    ↔ ((t : Ty) × (length s ≤ text-limit) × Spelt s (printText t) × Legal t × (r ≡ came-out 0 0 (filled (tableOf t))))
 
 -- The same of what is seen of the table's words.
 abbrev pub ReadSeen : Type 0
@@ -71,7 +71,7 @@ SpellableExactly = (t : Ty) → Spellable t ↔ ((s : List ℕ) × Spelt s (prin
 
 -- The speller's text of a legal type is read, where it is not too long.
 abbrev pub SpellRead : Type 0
-SpellRead = (t : Ty) → Spellable t → Legal t → length (spell t) ≤ text-limit → reads (spell t) ≡ out 0 0 (filled (tableOf t))
+SpellRead = (t : Ty) → Spellable t → Legal t → length (spell t) ≤ text-limit → reads (spell t) ≡ came-out 0 0 (filled (tableOf t))
 
 -- ---- names
 
