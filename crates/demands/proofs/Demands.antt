@@ -5,6 +5,7 @@ use mathlib.Core.Logic.{_↔_}
 use mathlib.Core.List.{List}
 use mathlib.Core.Option.{Option, none, some}
 use Prim.Native.Nat.{ℕ}
+use Rattle.table.specs.Table.{Table}
 use Rattle.table.specs.View.{view}
 use Rattle.message.specs.Message.{Message}
 use Rattle.message.specs.Rules.{Rules, table-rules}
@@ -24,7 +25,7 @@ use Rattle.together.proofs.Unblamed.{fits-unblamed}
 use Rattle.summary.specs.Report.{Reported}
 use Rattle.summary.proofs.Exactly.{reports-fit, reports-no-fit}
 use Rattle.demands.specs.Demands.{TextOf, FitOfTexts, ReadOfTexts, OneType, DemandTwoOfTexts, DemandThreeOfTexts, UnblamedOfTexts}
-use Rattle.demands.proofs.Likeness.{safe-like, unsafe-like}
+use Rattle.demands.proofs.Likeness.{alike-itself, safe-like, unsafe-like}
 
 -- ---- one text
 
@@ -53,15 +54,41 @@ demand-two-of-texts s t x sent = type-demand s (is-read s t x) t (writes s t x) 
 
 -- ---- two texts
 
+module _ (protocol device : List ℕ) (p d : Ty) (x : TextOf protocol p) (y : TextOf device d) where
+  abbrev T : Table
+  T = view (reads device .table)
+
+  abbrev U : Table
+  U = view (reads protocol .table)
+
+  safe : Safe (type-rules d) (type-rules p) ↔ Safe (table-rules T) (table-rules U)
+  safe =
+      safe-like (Stands-for T) (Stands-for U) (type-rules d) (table-rules T) (type-rules p) (table-rules U) (goes-along device d y)
+      (goes-along protocol p x)
+
+  unsafe : Unsafe (type-rules d) (type-rules p) ↔ Unsafe (table-rules T) (table-rules U)
+  unsafe =
+      unsafe-like (Stands-for T) (Stands-for U) (type-rules d) (table-rules T) (type-rules p) (table-rules U) (goes-along device d y)
+      (goes-along protocol p x)
+
+  -- the device's type against the protocol's table, which the monitor has
+  beside : Safe (type-rules d) (type-rules p) ↔ Safe (type-rules d) (table-rules U)
+  beside =
+      safe-like (_≡_ {A = Ty}) (Stands-for U) (type-rules d) (type-rules d) (type-rules p) (table-rules U) (alike-itself (type-rules d))
+      (goes-along protocol p x)
+
 pub demand-three-of-texts : DemandThreeOfTexts
 demand-three-of-texts protocol device p d x y report r =
+    let a = safe protocol device p d x y in
+    let b = unsafe protocol device p d x y in
+    let f = reports-fit protocol device report r (is-read protocol p x) (is-read device d y) in
+    let g = reports-no-fit protocol device report r (is-read protocol p x) (is-read device d y) in
     record {
-      passes = (λ h. safe .1 (said .0 h), λ h. said .1 (safe .0 h));
-      fails = (λ h. unsafe .1 (unsaid .0 h), λ h. unsaid .1 (unsafe .0 h));
+      passes = (λ h. a .1 (f .0 h), λ h. f .1 (a .0 h));
+      fails = (λ h. b .1 (g .0 h), λ h. g .1 (b .0 h));
     }
-  where
-    T = view (reads device .table)
-    U = view (reads protocol .table)
 
-    safe : Safe (type-rules d) (type-rules p) ↔ Safe (table-rules T) (table-rules U)
-    safe = safe-like (Stands-for T) (Stands-for U) (type-rules d) (table-rules T) (type-rules p) (table-rules U) (goes-along device d y) (goes-along protocol p x)
+pub unblamed-of-texts : UnblamedOfTexts
+unblamed-of-texts protocol device p d x y safe sent keeps =
+    fits-unblamed Ty (type-rules d) (reads protocol .table) (read-sound protocol (is-read protocol p x))
+    (beside protocol device p d x y .0 safe) sent keeps

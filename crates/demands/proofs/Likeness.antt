@@ -10,18 +10,23 @@ use Rattle.table.specs.declared.Party.{Party}
 use Rattle.table.specs.declared.Party.the-variants.{Device, Host}
 use Rattle.message.specs.Message.{Message, read, well-formed}
 use Rattle.message.specs.Rules.{Rules}
+use Rattle.types.proofs.Stands.{Alike, neither, each}
+use Rattle.types.proofs.Agree.{why, Rules-alike}
 use Rattle.fit.specs.Machine.{Standing, running, device-blamed, host-blamed, jammed, Machine, Move, Effect, nothing, forward, stop, from-device, from-host, while-running, arrived, fresh-machine, by-side, effect, does, after, move, play, run, bad, Safe, Unsafe}
 
--- both lead nowhere, or on to two that are related
-pub data Alike {A B : Type 0} (S : A → B → Type 0) : Option A → Option B → Type 0 where
-  neither : Alike S none none
-  each : {a : A} {b : B} → S a b → Alike S (some a) (some b)
-
--- places that are related are of one sort, and allow the same messages, to places that are related
-pub record Like {A B : Type 0} (a : Rules A) (b : Rules B) (S : A → B → Type 0) : Type 0 where
-  pub starts : S (a .start) (b .start)
-  pub sorts : (x : A) (y : B) → S x y → a .sort x ≡ b .sort y
-  pub on : (x : A) (y : B) → S x y → (m : Message) → Alike S (a .allows x m) (b .allows y m)
+-- rules do as they do
+pub alike-itself : {A : Type 0} (r : Rules A) → Rules-alike (_≡_ {A = A}) r r
+alike-itself {A} r =
+    record {
+      begins = refl;
+      sorted = λ a b e. ap (r .sort) e;
+      steps = λ a b e m. subst (λ (x : A). Alike (_≡_ {A = A}) (r .allows a m) (r .allows x m)) e (same (r .allows a m));
+      whys = λ a b e m. ap (λ (x : A). why (r .judge x m)) e;
+    }
+  where
+    same : (o : Option A) → Alike (_≡_ {A = A}) o o
+    same none = neither
+    same (some a) = each refl
 
 module _ {A B C D : Type 0} (S : A → B → Type 0) (T : C → D → Type 0) where
   data Effects : Effect A C → Effect B D → Type 0 where
@@ -57,24 +62,24 @@ module _ {A B C D : Type 0} (S : A → B → Type 0) (T : C → D → Type 0) wh
   still-running host-blamed x = both-nothing
   still-running jammed x = both-nothing
 
-  module _ (a : Rules A) (b : Rules B) (c : Rules C) (d : Rules D) (l : Like a b S) (k : Like c d T) where
+  module _ (a : Rules A) (b : Rules B) (c : Rules C) (d : Rules D) (l : Rules-alike S a b) (k : Rules-alike T c d) where
     arrive : {i : A} {x : B} {j : C} {y : D} → S i x → T j y → Machines (arrived a c i j) (arrived b d x y)
     unfolding arrived
     arrive {i} {x} {j} {y} s t =
         record {
           states = s;
           positions = t;
-          standings = ap₂ (λ (u v : Sort). cond (same-sort u v) running jammed) (l .sorts i x s) (k .sorts j y t);
+          standings = ap₂ (λ (u v : Sort). cond (same-sort u v) running jammed) (l .sorted i x s) (k .sorted j y t);
         }
 
     by-side-like : (side : Party) (i : A) (x : B) (j : C) (y : D) (m : Message) → S i x → T j y → Effects (by-side a c side i j m) (by-side b d side x y m)
     unfolding by-side
     by-side-like Device i x j y m s t =
-        subst (λ (u : Sort). Effects (by-side a c Device i j m) (cond (same-sort u sends) (from-device (b .allows x m) (d .allows y m)) nothing)) (l .sorts i x s)
-        (if-so (same-sort (a .sort i) sends) (by-device (l .on i x s m) (k .on j y t m)))
+        subst (λ (u : Sort). Effects (by-side a c Device i j m) (cond (same-sort u sends) (from-device (b .allows x m) (d .allows y m)) nothing)) (l .sorted i x s)
+        (if-so (same-sort (a .sort i) sends) (by-device (l .steps i x s m) (k .steps j y t m)))
     by-side-like Host i x j y m s t =
-        subst (λ (u : Sort). Effects (by-side a c Host i j m) (cond (same-sort u receives) (from-host (d .allows y m) (b .allows x m)) nothing)) (k .sorts j y t)
-        (if-so (same-sort (c .sort j) receives) (by-host (l .on i x s m) (k .on j y t m)))
+        subst (λ (u : Sort). Effects (by-side a c Host i j m) (cond (same-sort u receives) (from-host (d .allows y m) (b .allows x m)) nothing)) (k .sorted j y t)
+        (if-so (same-sort (c .sort j) receives) (by-host (l .steps i x s m) (k .steps j y t m)))
 
     effect-like : (i : A) (x : B) (j : C) (y : D) (v : Move) → S i x → T j y → Effects (effect a c i j v) (effect b d x y v)
     unfolding effect
@@ -100,7 +105,7 @@ module _ {A B C D : Type 0} (S : A → B → Type 0) (T : C → D → Type 0) wh
 
     pub run-like : (vs : List Move) → run a c vs .standing ≡ run b d vs .standing
     unfolding run fresh-machine
-    run-like vs = play-like vs (fresh-machine a c) (fresh-machine b d) (arrive (l .starts) (k .starts)) .standings
+    run-like vs = play-like vs (fresh-machine a c) (fresh-machine b d) (arrive (l .begins) (k .begins)) .standings
 
     pub safe-like : Safe a c ↔ Safe b d
     unfolding Safe

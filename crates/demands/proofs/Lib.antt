@@ -1,0 +1,2 @@
+pub mod Likeness
+pub mod Demands
