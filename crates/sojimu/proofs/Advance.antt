@@ -10,7 +10,7 @@ use Rattle.table.specs.declared.Party.the-variants.{Device, Host}
 use Rattle.monitor.specs.declared.Standing.{Standing}
 use Rattle.monitor.specs.declared.Standing.the-variants.{Running, DeviceBlamed, HostBlamed}
 use Rattle.monitor.specs.declared.State.{State}
-use Rattle.monitor.specs.Step.{Stepping, refusing, blaming, forwarding, stepping}
+use Rattle.monitor.specs.Step.{Outcome, refusing, blaming, forwarding, stepping}
 use Rattle.monitor.proofs.Asking.{Way, refuses, forwards, blames, way}
 use Rattle.sojimu.specs.Codes.{sideOf, partyCode, standingCode, standingOf, stateOf, stateBytes, verdictCodes}
 use Rattle.sojimu.specs.Calls.{said-by, bytes-after, crossing, step-codes}
@@ -29,11 +29,11 @@ state-same s = ap (λ (x : Standing). let r : State = record { position = s .pos
 
 module _ (t : Words) (s : State) (side : Party) (message out : List ℕ) where
   -- a refusal leaves the state as it was, so its bytes are those of the state after it, too
-  bytes-same : (r : Stepping) → Way t s side message out r → bytes-after (r .verdict) (r .state) (stateBytes s) ≡ stateBytes (r .state)
+  bytes-same : (r : Outcome) → Way t s side message out r → bytes-after (r .verdict) (r .state) (stateBytes s) ≡ stateBytes (r .state)
   unfolding bytes-after refusing blaming forwarding
   bytes-same r (refuses q e n) = refl
   bytes-same r (forwards e j h) = refl
-  bytes-same r (blames e j h n) = refl
+  bytes-same r (blames e n f h) = refl
 
   pub codes-step : step-codes t (stateBytes s) (partyCode side) message out
       ≡ (verdictCodes (stepping t s side message out .verdict), stateBytes (stepping t s side message out .state), stepping t s side message out .output)

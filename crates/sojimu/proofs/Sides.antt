@@ -15,10 +15,9 @@ use Rattle.table.specs.declared.Party.{Party}
 use Rattle.table.specs.declared.Party.the-variants.{Device, Host}
 use Rattle.monitor.specs.declared.State.{State}
 use Rattle.monitor.specs.declared.Reason.{Reason}
-use Rattle.monitor.specs.declared.Reason.the-variants.{NoLabel, OtherKinds, OutOfRange}
 use Rattle.monitor.specs.declared.Verdict.the-variants.{Blamed}
 use Rattle.monitor.specs.declared.Stepped.{Stepped}
-use Rattle.monitor.specs.Step.{of-state, told, refusing, stepping, stepped}
+use Rattle.monitor.specs.Step.{of-state, told, refusing, stepping, outcome}
 use Rattle.table.specs.Lists.{first-no}
 use Rattle.monitor.specs.Due.{Awaited, refused, of-side, sending, awaited}
 use Rattle.monitor.proofs.Asking.{zero-or, not-its-turn, stops-there, goes-on, asked-first, asked-then, refused-step}
@@ -87,19 +86,17 @@ module _ (t : Words) (s : State) where
 -- a blame is kept, whatever its reason
 pub blame-kept : (side : Party) (why : Reason) (s : State) (bytes : List ℕ) → bytes-after (told (Blamed side why)) s bytes ≡ stateBytes s
 unfolding bytes-after told
-blame-kept side NoLabel s bytes = refl
-blame-kept side OtherKinds s bytes = refl
-blame-kept side (OutOfRange f) s bytes = refl
+blame-kept side why s bytes = refl
 
 -- what a step's parts give together
 pub crossed : (t : Words) (s : State) (side : ℕ) (speaker : Party) (bytes message out : List ℕ) (r : Stepped) (verdict : Verdict) (bytes' out' : List ℕ)
     → s ≡ stateOf (getD bytes 0 0) (getD bytes 1 0)
     → speaker ≡ stand-in (sideOf side) (awaited t s)
-    → stepped r out' ≡ stepping t s speaker message out
+    → outcome r out' ≡ stepping t s speaker message out
     → bytes' ≡ bytes-after (told (r .verdict)) (r .state) bytes
     → verdict ≡ verdictCodes (told (r .verdict))
     → (verdict, bytes', out') ≡ step-codes t bytes side message out
-unfolding step-codes crossing stepped
+unfolding step-codes crossing outcome
 crossed t s side speaker bytes message out r verdict bytes' out' es ep er eb ev =
     rw (ev, eb)
     (ap (λ x. crossing x bytes)

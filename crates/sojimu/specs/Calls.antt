@@ -5,16 +5,16 @@ use mathlib.Core.Bool.{false}
 use mathlib.Core.List.{List, [], _∷_, _++_}
 use mathlib.Core.Option.{Option, none, some}
 use Prim.Native.Nat.{ℕ, zero, suc}
-use lib.ListN.{length, getD}
+use lib.ListN.{getD}
 use Rattle.table.specs.View.{Words}
 use Rattle.table.specs.declared.Party.{Party}
 use Rattle.table.specs.declared.Party.the-variants.{Device, Host}
 use Rattle.monitor.specs.declared.State as M
-use Rattle.monitor.specs.Step.{of-state, Told, refused, blamed, forwarded, Stepping, refusing, stepping}
+use Rattle.monitor.specs.Step.{of-state, Told, refused, blamed, forwarded, Outcome, refusing, stepping}
 use Rattle.table.specs.Lists.{first-no}
 use Rattle.monitor.specs.Due.{Seen, cut, Awaited, of-side, first-length}
 use Rattle.monitor.specs.Due as D
-use Rattle.fit.specs.Answer.{Answer, Answered, Demand}
+use Rattle.fit.specs.Answer.{Answer, Answered}
 use Rattle.sojimu.specs.declared.steps.Verdict.{Verdict}
 use Rattle.sojimu.specs.declared.steps.Due.{Due}
 use Rattle.sojimu.specs.declared.fits.Fit.{Fit}
@@ -24,7 +24,7 @@ use denote.Ref.{RefT}
 -- ---- one step
 
 -- what no side says is never in turn: 9, 10 and 11 are asked, and 12 gets a no
-unfoldable pub said-by : Option Party → Words → M.State → List ℕ → List ℕ → Stepping
+unfoldable pub said-by : Option Party → Words → M.State → List ℕ → List ℕ → Outcome
 said-by (some side) t s message out = stepping t s side message out
 said-by none t s message out = refusing (first-no (of-state t s ++ ((12, false) ∷ []))) s out
 
@@ -35,7 +35,7 @@ bytes-after (blamed side n f) s bytes = stateBytes s
 bytes-after forwarded s bytes = stateBytes s
 
 -- the verdict, the state's two bytes, and the output
-unfoldable pub crossing : Stepping → List ℕ → Verdict × List ℕ × List ℕ
+unfoldable pub crossing : Outcome → List ℕ → Verdict × List ℕ × List ℕ
 crossing r bytes = (verdictCodes (r .verdict), bytes-after (r .verdict) (r .state) bytes, r .output)
 
 unfoldable pub step-codes : Words → List ℕ → ℕ → List ℕ → List ℕ → Verdict × List ℕ × List ℕ
@@ -60,9 +60,9 @@ part r device host = cut (waiting (r .side) device host) (r .length)
 
 -- ---- the fit check
 
--- the codes are those of an answer that the fit check promises; `before` and `after` are the lent list's numbers
+-- the codes are those of an answer that the fit check promises; `before` and `after` are the lent list's numbers. Demand 3 follows
+-- from the promise (`DemandThree` in fit/specs/Answer)
 pub record Checked (d p : Words) (before after : List ℕ) (r : Fit) : Type 0 where
   pub answer : Answer
   pub codes : r ≡ fitCodes answer
   pub answered : Answered d p before after answer
-  pub demand : Demand d p (length before) answer

@@ -1,20 +1,35 @@
 -- `sojimu::steps::blame_codes` meets its contract. Assumes nothing.
+use mathlib.Core.Path.{_≡_, sym, ap}
 use borrow.Author.Needs.{needs}
-use Rattle.monitor.specs.Step.{told}
+use Rattle.table.specs.declared.Party.{Party}
+use Rattle.monitor.specs.declared.Reason.{Reason}
+use Rattle.monitor.specs.declared.Verdict.the-variants.{Blamed}
+use Rattle.monitor.specs.Step.{reason, outside, told}
+use Rattle.sojimu.specs.Codes.{verdictCodes}
 use Rattle.sojimu.proofs.steps.blame_codes.Statement.{statement}
 use Rattle.sojimu.proofs.steps.blame_codes.Tie as tie
 
+-- the codes of a blame for an equal reason
+again : (side : Party) {v w : Reason} → w ≡ v → verdictCodes (told (Blamed side v)) ≡ verdictCodes (told (Blamed side w))
+again side e = ap (λ w. verdictCodes (told (Blamed side w))) (sym e)
+
 returns : tie.Need-returns
-unfolding told
-returns c = rw (c .blame .ensures, c .before .before .before .party-code .ensures, c .before .enum-told .given .1)
+unfolding told reason outside
+returns c =
+    rw (c .blame .ensures, c .before .before .before .party-code .ensures)
+    (again (c .before .before .before .before .args .party) (c .before .enum-told .given .1))
 
 returns-2 : tie.Need-returns-2
-unfolding told
-returns-2 c = rw (c .blame2 .ensures, c .before .before .before .party-code .ensures, c .before .enum-told2 .given .1)
+unfolding told reason outside
+returns-2 c =
+    rw (c .blame2 .ensures, c .before .before .before .party-code .ensures)
+    (again (c .before .before .before .before .args .party) (c .before .enum-told2 .given .1))
 
 returns-3 : tie.Need-returns-3
-unfolding told
-returns-3 c = rw (c .blame3 .ensures, c .before .before .before .before .party-code .ensures, c .before .before .reason .given .1)
+unfolding told reason outside
+returns-3 c =
+    rw (c .blame3 .ensures, c .before .before .before .before .party-code .ensures)
+    (again (c .before .before .before .before .before .args .party) (c .before .before .reason .given .1))
 
 pub blame-codes-spec : {M : Type 1} → statement M
 blame-codes-spec =
