@@ -8,14 +8,16 @@ use native.Mathlib.Omega.{arith}
 use lib.ListN.{length}
 use lib.Dec.{leb, eqb}
 use borrow.Author.Tests.{leb-true}
+use Rattle.table.specs.Lists.{first-no}
+use Rattle.text.proofs.Asked.{asked}
 use Rattle.text.specs.Building.{denied}
 use Rattle.text.specs.Token.{tokenAt, tokensFrom, tokens}
-use Rattle.text.specs.Reading.{State, Question, questions, firstNo, asked, taken, run, start, answered, reads}
+use Rattle.text.specs.Reading.{State, questions, taken, run, start, answered, reads}
 use Rattle.text.specs.declared.token.Token.{Token}
 use Rattle.text.specs.Filled.{Reading}
 use Rattle.text.proofs.Span.{token-spans}
 
-abbrev Small : List (ℕ × Question) → Type 0
+abbrev Small : List (ℕ × Bool) → Type 0
 Small [] = Unit {0}
 Small (q ∷ qs) = (q .0 ≤ 8) × Small qs
 
@@ -36,22 +38,23 @@ place-within (suc n) s p st = go (eqb (asked s st (tokenAt s p)) 0) (place-withi
     go false h = let w = token-spans s p in omega (arith, w .forward, w .inside)
 
 -- a question's number is at most 8
-first-small : (qs : List (ℕ × Question)) (s : List ℕ) (st : State) (k : Token) → Small qs → firstNo qs s st k ≤ 8
-first-small [] s st k h = zero-le
-first-small (q ∷ qs) s st k h = go (q .1 s st k) (first-small qs s st k (h .1))
+first-small : (qs : List (ℕ × Bool)) → Small qs → first-no qs ≤ 8
+unfolding first-no
+first-small [] h = zero-le
+first-small (q ∷ qs) h = go (q .1) (first-small qs (h .1))
   where
-    go : (b : Bool) → firstNo qs s st k ≤ 8 → cond b (firstNo qs s st k) (q .0) ≤ 8
+    go : (b : Bool) → first-no qs ≤ 8 → cond b (first-no qs) (q .0) ≤ 8
     go true l = l
     go false l = h .0
 
 run-small : (s : List ℕ) (st : State) (ks : List Token) → run s st ks .question ≤ 8
-unfolding run denied asked
+unfolding run denied first-no questions
 run-small s st [] = zero-le
 run-small s st (k ∷ ks) = go (eqb (asked s st k) 0) (run-small s (taken s st k) ks)
   where
     go : (b : Bool) → run s (taken s st k) ks .question ≤ 8 → cond b (run s (taken s st k) ks) (denied (asked s st k) (k .start)) .question ≤ 8
     go true l = l
-    go false l = first-small questions s st k (omega arith, (omega arith, (omega arith, (omega arith, (omega arith, (omega arith, (omega arith, tt)))))))
+    go false l = first-small (questions s st k) (omega arith, (omega arith, (omega arith, (omega arith, (omega arith, (omega arith, (omega arith, tt)))))))
 
 question-small : (s : List ℕ) → answered s .question ≤ 8
 unfolding answered denied

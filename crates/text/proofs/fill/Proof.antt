@@ -2,7 +2,7 @@
 use mathlib.Core.Path.{ap, _∙_}
 use mathlib.Core.Logic.{⊎-elim}
 use borrow.Author.Needs.{needs}
-use Rattle.text.specs.Filled.{out}
+use Rattle.text.specs.Filled.{came-out}
 use Rattle.text.proofs.Whole.{filled-read, filled-refused, place-fits}
 use Rattle.text.proofs.fill.Statement.{statement}
 use Rattle.text.proofs.fill.Tie as tie
@@ -11,8 +11,8 @@ returns : tie.Need-returns
 returns c =
     let r = c .before .before .before .before .read-text in
     ⊎-elim
-    (λ w. ap (out _ _) (w .2 ∙ w .1 .ensures) ∙ filled-refused _ (r .result) _ (r .ensures) (w .0 .taken))
-    (λ w. ap (out _ _) (w .1) ∙ filled-read _ (r .result) _ (r .ensures) (w .0 .left))
+    (λ w. ap (came-out _ _) (w .2 ∙ w .1 .ensures) ∙ filled-refused _ (r .result) _ (r .ensures) (w .0 .taken))
+    (λ w. ap (came-out _ _) (w .1) ∙ filled-read _ (r .result) _ (r .ensures) (w .0 .left))
     (c .before .before .if1 .came)
 
 pub fill-spec : {M : Type 1} → statement M

@@ -1,0 +1,197 @@
+-- What is asked at a token, and the state after it, depend on the text only through the token as the grammar sees it. So a text that begins
+-- with the tokens of another that is refused is refused, too.
+-- Assumes nothing.
+use mathlib.Core.Path.{_≡_, refl, sym, ap, _∙_}
+use mathlib.Core.Bool.{cond, Bool, true, false, not, _&&_}
+use mathlib.Core.List.{List, [], _∷_, _++_, map}
+use Prim.Native.Nat.{ℕ}
+use lib.Dec.{eqb, ltb}
+use borrow.Author.Tests.{eqb-true, eqb-false}
+use Rattle.table.specs.Lists.{first-no}
+use Rattle.text.proofs.Asked.{asked}
+use Rattle.table.specs.Table.{Table}
+use Rattle.text.specs.Token.{wordIn}
+use Rattle.text.specs.Number.{Signed, signedIn, offset, inKind}
+use Rattle.text.specs.Grammar.{Tok, word, number, sign, tokOf, or-else}
+use Rattle.text.specs.Building.{label-used, denied}
+use Rattle.text.specs.Reading.{Item, just, name, label, type, more, fields, field, low, high, moreFields, Open, State, state, openIn, tableIn, next, meaning, ownerIn, admits, asType, isFound, inRange, asLabel, wellFormed, allowed, bound, guarded, ranged, new-label, within, target, began, taken, run, questions}
+use Rattle.text.specs.declared.token.Token.{Token}
+use Rattle.text.proofs.Toks.{word-kind, number-kind, kind-word, kind-number}
+use Rattle.text.proofs.Goes.{first-is, rest-is, never-empty, passed}
+use Rattle.text.proofs.Becomes.{asked-none}
+use Rattle.spelling.specs.Places.{kindIn}
+
+kind-in : (s : List ℕ) (k : Token) → kindIn (tokOf s k) ≡ k .kind
+unfolding tokOf
+kind-in s k = go (eqb (k .kind) 65) refl (eqb (k .kind) 48) refl
+  where
+    go : (b : Bool) → eqb (k .kind) 65 ≡ b → (c : Bool) → eqb (k .kind) 48 ≡ c
+        → kindIn (cond b (word (wordIn s k)) (cond c (number (signedIn s k)) (sign (k .kind)))) ≡ k .kind
+    go true e c f = sym (eqb-true _ _ e)
+    go false e true f = sym (eqb-true _ _ f)
+    go false e false f = refl
+
+module _ (s u : List ℕ) (k j : Token) (same : tokOf s k ≡ tokOf u j) where
+  kind-same : k .kind ≡ j .kind
+  kind-same = sym (kind-in s k) ∙ ap kindIn same ∙ kind-in u j
+
+  word-same : eqb (k .kind) 65 ≡ true → wordIn s k ≡ wordIn u j
+  word-same e = sym (word-kind u j (wordIn s k) (sym same ∙ kind-word s k (eqb-true _ _ e)) .1)
+
+  number-same : eqb (k .kind) 48 ≡ true → signedIn s k ≡ signedIn u j
+  number-same e = sym (number-kind u j (signedIn s k) (sym same ∙ kind-number s k (eqb-true _ _ e)) .1)
+
+  -- a name's word, where the token is a name
+  word-in : {A : Type 0} (f : ℕ → A) (a : A) → cond (eqb (k .kind) 65) (f (wordIn s k)) a ≡ cond (eqb (j .kind) 65) (f (wordIn u j)) a
+  word-in {A} f a = go (eqb (k .kind) 65) refl (word-same) ∙ ap (λ (n : ℕ). cond (eqb n 65) (f (wordIn u j)) a) kind-same
+    where
+      go : (b : Bool) → eqb (k .kind) 65 ≡ b → (eqb (k .kind) 65 ≡ true → wordIn s k ≡ wordIn u j)
+          → cond b (f (wordIn s k)) a ≡ cond (eqb (k .kind) 65) (f (wordIn u j)) a
+      go true e h = ap f (h e) ∙ ap (λ (b : Bool). cond b (f (wordIn u j)) a) (sym e)
+      go false e h = ap (λ (b : Bool). cond b (f (wordIn u j)) a) (sym e)
+
+  -- ---- the questions
+
+  bound-same : (i : Item) (O : List Open)
+      → cond (asType i (k .kind)) (isFound (meaning O (wordIn s k))) true ≡ cond (asType i (j .kind)) (isFound (meaning O (wordIn u j))) true
+  bound-same (just n) O = refl
+  bound-same name O = refl
+  bound-same label O = refl
+  bound-same type O = word-in (λ x. isFound (meaning O x)) true
+  bound-same (more σ) O = refl
+  bound-same fields O = refl
+  bound-same field O = refl
+  bound-same (low κ) O = refl
+  bound-same (high κ l) O = refl
+  bound-same moreFields O = refl
+
+  range-same : (i : Item) → admits i (k .kind) ≡ true → inRange s k i ≡ inRange u j i
+  range-same (just n) a = refl
+  range-same name a = refl
+  range-same label a = refl
+  range-same type a = refl
+  range-same (more σ) a = refl
+  range-same fields a = refl
+  range-same field a = refl
+  range-same (low κ) a = ap (inKind κ) (number-same a)
+  range-same (high κ l) a = ap (λ (n : Signed). inKind κ n && not (ltb (offset n) l)) (number-same a)
+  range-same moreFields a = refl
+
+  label-same : (i : Item) (T : Table) (o : ℕ) → admits i (k .kind) ≡ true
+      → cond (asLabel i) (not (label-used T o (wordIn s k))) true ≡ cond (asLabel i) (not (label-used T o (wordIn u j))) true
+  label-same (just n) T o a = refl
+  label-same name T o a = refl
+  label-same label T o a = ap (λ (x : ℕ). not (label-used T o x)) (word-same a)
+  label-same type T o a = refl
+  label-same (more σ) T o a = refl
+  label-same fields T o a = refl
+  label-same field T o a = refl
+  label-same (low κ) T o a = refl
+  label-same (high κ l) T o a = refl
+  label-same moreFields T o a = refl
+
+  formed-same : (st : State) → wellFormed s st k ≡ wellFormed u st j
+  unfolding wellFormed
+  formed-same st = rw kind-same
+
+  allowed-same : (st : State) → allowed s st k ≡ allowed u st j
+  unfolding allowed
+  allowed-same st = rw kind-same
+
+  named-same : (st : State) → bound s st k ≡ bound u st j
+  unfolding bound
+  named-same st = bound-same (next st) (openIn st)
+
+  guarded-same : (st : State) → guarded s st k ≡ guarded u st j
+  unfolding guarded
+  guarded-same st = rw kind-same
+
+  ranged-same : (st : State) → allowed s st k ≡ true → ranged s st k ≡ ranged u st j
+  unfolding allowed ranged
+  ranged-same st a = range-same (next st) a
+
+  new-same : (st : State) → allowed s st k ≡ true → new-label s st k ≡ new-label u st j
+  unfolding allowed new-label
+  new-same st a = label-same (next st) (tableIn st) (ownerIn (openIn st)) a
+
+  within-same : (st : State) → within s st k ≡ within u st j
+  unfolding within
+  within-same st = rw kind-same
+
+  asked-same : (st : State) → asked s st k ≡ asked u st j
+  unfolding first-no questions
+  asked-same st =
+      rw (formed-same st, named-same st, guarded-same st, within-same st)
+      (behind (wellFormed u st j) (λ r n. cond (bound u st j) (cond (guarded u st j) (cond r (cond n (cond (within u st j) 0 8) 7) 6) 5) 4)
+      (allowed s st k) (allowed u st j) (ranged s st k) (ranged u st j) (new-label s st k) (new-label u st j) (allowed-same st) (ranged-same st) (new-same st))
+    where
+      -- after 3, what is asked may go by 3
+      behind : (w : Bool) (f : Bool → Bool → ℕ) (a b r q n m : Bool) → a ≡ b → (a ≡ true → r ≡ q) → (a ≡ true → n ≡ m)
+          → cond w (cond a (f r n) 3) 2 ≡ cond w (cond b (f q m) 3) 2
+      behind w f true b r q n m e g h = rw (← e, g refl, h refl)
+      behind w f false b r q n m e g h = rw (← e)
+
+  -- ---- the state after the token
+
+  target-same : (O : List Open) (n : ℕ) → target s k O n ≡ target u j O n
+  unfolding target
+  target-same O n = word-in (λ x. or-else (meaning O x) n) n
+
+  began-same : (E : List Item) (O : List Open) (T : Table) → began k E O T ≡ began j E O T
+  unfolding began
+  began-same E O T = rw kind-same
+
+  taken-same : (st : State) → allowed s st k ≡ true → taken s st k ≡ taken u st j
+  unfolding taken allowed
+  taken-same (state [] O b T) a = refl
+  taken-same (state (just n ∷ E) O b T) a = refl
+  taken-same (state (name ∷ E) O b T) a = rw (word-same a)
+  taken-same (state (label ∷ E) O b T) a = rw (word-same a)
+  taken-same (state (type ∷ E) O b T) a = rw (target-same O _) (began-same E O _)
+  taken-same (state (more σ ∷ E) O b T) a = rw kind-same
+  taken-same (state (fields ∷ E) O b T) a = rw kind-same
+  taken-same (state (field ∷ E) O b T) a = rw kind-same
+  taken-same (state (low κ ∷ E) O b T) a = rw (number-same a)
+  taken-same (state (high κ l ∷ E) O b T) a = rw (number-same a)
+  taken-same (state (moreFields ∷ E) O b T) a = rw kind-same
+
+-- ---- the first token that gets a no
+
+module _ (s : List ℕ) where
+  -- it has the place p, and whoever begins with the tokens up to it gets a no
+  pub record Stop (st : State) (ks : List Token) (p : ℕ) : Type 0 where
+    pub before : List Token
+    pub here : Token
+    pub rest : List Token
+    pub split : ks ≡ before ++ (here ∷ rest)
+    pub place : here .start ≡ p
+    pub none : (u : List ℕ) (js : List Token) (ts : List Tok) → map (tokOf u) js ≡ map (tokOf s) before ++ (tokOf s here ∷ ts) → run u st js .question ≡ 0 → ⊥
+
+  stop-here : (st : State) (k : Token) (ks : List Token) → (asked s st k ≡ 0 → ⊥) → Stop st (k ∷ ks) (k .start)
+  stop-here st k ks h = record { before = []; here = k; rest = ks; split = refl; place = refl; none = none }
+    where
+      none : (u : List ℕ) (js : List Token) (ts : List Tok) → map (tokOf u) js ≡ tokOf s k ∷ ts → run u st js .question ≡ 0 → ⊥
+      none u [] ts e z = never-empty e
+      none u (j ∷ js) ts e z = h (asked-same s u k j (sym (first-is e)) st ∙ passed u st j js z .0)
+
+  stop-later : (st : State) (k : Token) (ks : List Token) (p : ℕ) → asked s st k ≡ 0 → Stop (taken s st k) ks p → Stop st (k ∷ ks) p
+  stop-later st k ks p h r =
+      record { before = k ∷ r .before; here = r .here; rest = r .rest; split = ap (λ (l : List Token). k ∷ l) (r .split); place = r .place; none = none }
+    where
+      none : (u : List ℕ) (js : List Token) (ts : List Tok) → map (tokOf u) js ≡ tokOf s k ∷ (map (tokOf s) (r .before) ++ (tokOf s (r .here) ∷ ts))
+          → run u st js .question ≡ 0 → ⊥
+      none u [] ts e z = never-empty e
+      none u (j ∷ js) ts e z =
+          let t = taken-same s u k j (sym (first-is e)) st (asked-none s k st h) in
+          r .none u js ts (rest-is e) (ap (λ (x : State). run u x js .question) t ∙ passed u st j js z .1)
+
+  pub stop : (ks : List Token) (st : State) → (run s st ks .question ≡ 0 → ⊥) → Stop st ks (run s st ks .at)
+  unfolding run denied
+  stop [] st h = absurd (h refl)
+  stop (k ∷ ks) st h = go (eqb (asked s st k) 0) refl h (stop ks (taken s st k))
+    where
+      go : (b : Bool) → eqb (asked s st k) 0 ≡ b → (cond b (run s (taken s st k) ks) (denied (asked s st k) (k .start)) .question ≡ 0 → ⊥)
+          → ((run s (taken s st k) ks .question ≡ 0 → ⊥) → Stop (taken s st k) ks (run s (taken s st k) ks .at))
+          → Stop st (k ∷ ks) (cond b (run s (taken s st k) ks) (denied (asked s st k) (k .start)) .at)
+      go true e h later = stop-later st k ks _ (eqb-true _ _ e) (later h)
+      go false e h later = stop-here st k ks (eqb-false _ _ e)

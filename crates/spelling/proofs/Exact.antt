@@ -1,0 +1,95 @@
+-- The types that have a text are those whose names, labels and numbers can be written; and such a type that is legal is read from its text.
+-- Assumes nothing.
+use mathlib.Core.Path.{_≡_, refl}
+use mathlib.Core.Bool.{Bool, _&&_}
+use mathlib.Core.List.{List, [], _∷_}
+use Prim.Native.Nat.{ℕ, _+_, _-_, _*_, _≤_}
+use native.Mathlib.Omega.{arith}
+use lib.Dec.{leb}
+use borrow.Author.Tests.{leb-true}
+use Rattle.table.specs.Lists.{every}
+use Rattle.table.proofs.Lists.{both, join, never}
+use Rattle.text.specs.Number.{valueOf}
+use Rattle.text.specs.Filled.{came-out, filled}
+use Rattle.text.specs.Grammar.{Field, Ty, stop, var, loop, choice, Br, last, also, Tok, sign, arrow, printMore, printFields, print, printBr, tableOf}
+use Rattle.text.proofs.Bytes.{upper-word}
+use Rattle.text.proofs.Packed.{label-word}
+use Rattle.spelling.specs.Spelling.{digit, Digits, Spells, a-sign, a-dot, a-word, a-name, a-zero, a-number, a-negative, Spelt, ran-out, a-blank, a-token}
+use Rattle.spelling.specs.Speller.{spell, Writable, OfFields, Of, OfBr}
+use Rattle.spelling.specs.Theorems.{SpellableExactly, SpellRead}
+use Rattle.spelling.proofs.Read.{read-spelt}
+use Rattle.spelling.proofs.Spell.{spell-spelt}
+
+-- ---- what is spelt can be written
+
+value-ge : (w : List ℕ) (v : ℕ) → v ≤ valueOf v w
+unfolding valueOf
+value-ge [] v = omega arith
+value-ge (b ∷ w) v = omega (arith, value-ge w (v * 10 + (b - 48)))
+
+positive : (b : ℕ) (w : List ℕ) → Digits (b ∷ w) → valueOf 0 (b ∷ w) ≡ 0 → ⊥
+unfolding valueOf every
+positive b w h z =
+    let d = both (leb 48 b) (leb b 57) (both (leb 48 b && leb b 57) (every digit w) (h .0) .0) in
+    let l : 48 ≤ b = leb-true 48 b (d .0) in
+    let n = h .1 in
+    omega (arith, value-ge w (0 * 10 + (b - 48)))
+
+pub spells-writable : {t : Tok} {w : List ℕ} {more : ℕ → Bool} → Spells t w more → Writable t
+unfolding every
+spells-writable (a-sign l) = tt
+spells-writable (a-dot l) = tt
+spells-writable (a-word l) = tt
+spells-writable (a-name {w = []} h) = absurd h
+spells-writable (a-name {w = b ∷ w} h) =
+    let l = label-word b w (h .0) (join (upper-word b (h .0)) (h .1)) (h .2) in
+    (l .legal, l .back)
+spells-writable a-zero = λ e z. never e refl
+spells-writable (a-number h) = λ e z. never e refl
+spells-writable (a-negative {w = []} h) = absurd h
+spells-writable (a-negative {w = b ∷ w} h) = λ e z. positive b w h z
+
+abbrev pub Written : List Tok → Type 0
+Written [] = Unit {0}
+Written (t ∷ ts) = Writable t × Written ts
+
+spelt-written : {s : List ℕ} {ts : List Tok} → Spelt s ts → Written ts
+spelt-written ran-out = (tt, tt)
+spelt-written (a-blank i sp) = spelt-written sp
+spelt-written (a-token i o sp) = (spells-writable i, spelt-written sp)
+
+more-written : (fs : List Field) (ts : List Tok) → Written (printMore fs ts) → OfFields Writable fs × Written ts
+more-written [] ts w = (tt, w .1)
+more-written (f ∷ fs) ts w = let a = more-written fs ts (w .1 .1 .1 .1 .1 .1 .1) in ((w .1 .1 .1 .0, (w .1 .1 .1 .1 .1 .0, a .0)), a .1)
+
+fields-written : (fs : List Field) (ts : List Tok) → Written (printFields fs ts) → OfFields Writable fs × Written ts
+fields-written [] ts w = (tt, w .1)
+fields-written (f ∷ fs) ts w = let a = more-written fs ts (w .1 .1 .1 .1 .1 .1) in ((w .1 .1 .0, (w .1 .1 .1 .1 .0, a .0)), a .1)
+
+mutual
+  pub print-written : (t : Ty) (ts : List Tok) → Written (print t ts) → Of Writable t × Written ts
+  print-written stop ts w = (tt, w .1)
+  print-written (var x) ts w = (w .0, w .1)
+  print-written (loop x t) ts w = let a = print-written t ts (w .1 .1 .1) in ((w .1 .0, a .0), a .1)
+  print-written (choice v bs) ts w = branches-written bs (arrow v) ts (w .1 .1)
+
+  branches-written : (bs : Br) (σ : ℕ) (ts : List Tok) → Written (printBr bs σ ts) → OfBr Writable bs × Written ts
+  branches-written (last l fs t) σ ts w =
+      let a = fields-written fs (sign 46 ∷ print t (sign 125 ∷ ts)) (w .1 .1 .1) in
+      let b = print-written t (sign 125 ∷ ts) (a .1 .1) in
+      ((w .1 .0, (a .0, b .0)), b .1 .1)
+  branches-written (also l fs t bs) σ ts w =
+      let a = fields-written fs (sign 46 ∷ print t (sign 44 ∷ printBr bs σ ts)) (w .1 .1 .1) in
+      let b = print-written t (sign 44 ∷ printBr bs σ ts) (a .1 .1) in
+      let c = branches-written bs σ ts (b .1 .1) in
+      ((w .1 .0, (a .0, (b .0, c .0))), c .1)
+
+-- ---- the theorems
+
+-- A type has a text exactly when its names, labels and numbers can be written.
+pub spellable-exactly : SpellableExactly
+spellable-exactly t = ((λ h. (spell t, spell-spelt t h)), (λ h. print-written t (sign 0 ∷ []) (spelt-written (h .1)) .0))
+
+-- A legal type that can be written is read from the speller's text, if that is not too long.
+pub spell-read : SpellRead
+spell-read t h l m = read-spelt (spell t) (came-out 0 0 (filled (tableOf t))) .1 (t, m, spell-spelt t h, l, refl) .0

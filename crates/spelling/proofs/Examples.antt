@@ -1,0 +1,38 @@
+-- The examples of spelling, computed by the law that joins it to the scanner. Assumes nothing.
+use mathlib.Core.Path.{_≡_, refl, sym, ap, _∙_}
+use mathlib.Core.List.{List, _∷_, map}
+use Prim.Native.Nat.{ℕ}
+use native.Mathlib.Omega.{arith}
+use Rattle.table.specs.Lists.{same, matched}
+use Rattle.table.specs.Table.{letter-or-digit}
+use Rattle.text.specs.Token.{classOf, runOf, runEnd, wordKind, wordAt, nameAt, numberKind, numberAt, dotsAt, beginAt, tokenAt, tokensFrom, tokens, packed, wordOf}
+use Rattle.text.specs.Number.{signedOf, valueOf}
+use Rattle.text.specs.Grammar.{stop, Tok, sign, printText, tokOf}
+use Rattle.text.proofs.Toks.{tag, sign-in}
+use Rattle.spelling.specs.Spelling.{Spelt}
+use Rattle.spelling.specs.Theorems.{WellFormed}
+use Rattle.spelling.specs.Examples.{P, Examples}
+use Rattle.spelling.proofs.Scan.{spelt-scanned}
+use Rattle.spelling.proofs.Read.{text-formed}
+
+-- a text whose first token is malformed spells nothing
+nothing-spelt : (s : List ℕ) (us ts : List Tok) → map (tokOf s) (tokens s) ≡ sign 1 ∷ us → Spelt s ts → ⊥
+nothing-spelt s us ts e sp = let h = spelt-scanned s ts .0 sp in formed (sym (h .0) ∙ e) (h .1)
+  where
+    formed : {ts : List Tok} → ts ≡ sign 1 ∷ us → WellFormed ts → ⊥
+    formed e w = (rw e at w) .0 refl
+
+pub examples : Examples
+unfolding same matched letter-or-digit classOf runOf runEnd wordKind wordAt nameAt numberKind numberAt dotsAt beginAt tokenAt tokensFrom tokens wordOf packed signedOf valueOf tokOf
+examples = record {
+  protocol = spelt-scanned _ (printText P) .1 (refl, text-formed P);
+  blanks = spelt-scanned _ (printText stop) .1 (refl, text-formed stop);
+  tab = λ ts. nothing-spelt _ _ ts refl;
+  two-tokens = spelt-scanned _ _ .1 (refl, ((λ e. omega (arith, ap tag e)), ((λ e. omega (arith, ap tag e)), ((λ e. omega (arith, ap sign-in e)), tt))));
+  eight = spelt-scanned _ _ .1 (refl, ((λ e. omega (arith, ap tag e)), ((λ e. omega (arith, ap sign-in e)), tt)));
+  nine = λ ts. nothing-spelt _ _ ts refl;
+  minus-zero = λ ts. nothing-spelt _ _ ts refl;
+  leading-zero = λ ts. nothing-spelt _ _ ts refl;
+  three-dots = λ ts. nothing-spelt _ _ ts refl;
+  other-word = λ ts. nothing-spelt _ _ ts refl;
+}

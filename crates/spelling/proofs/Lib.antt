@@ -1,0 +1,12 @@
+pub mod Classes
+pub mod Here
+pub mod Scan
+pub mod Places
+pub mod Prints
+pub mod Read
+pub mod Spell
+pub mod Names
+pub mod Exact
+pub mod Examples
+pub mod Alike
+pub mod Refused

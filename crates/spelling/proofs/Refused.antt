@@ -1,0 +1,149 @@
+-- What a refusal means, said of the tokens that stand in the text: by 2 to 8, since reading goes the same way over the same tokens wherever
+-- they stand; by 3, from the grammar, with a text written by the speller.
+-- Assumes nothing.
+use mathlib.Core.Path.{_≡_, refl, sym, subst, ap, _∙_}
+use mathlib.Core.Bool.{cond, Bool, true, false}
+use mathlib.Core.List.{List, [], _∷_, _++_, map}
+use Prim.Native.Nat.{ℕ}
+use native.Mathlib.Omega.{arith}
+use lib.Dec.{eqb, leb}
+use lib.ListN.{length, drop}
+use borrow.Author.Tests.{ne-eqb, eqb-true}
+use Rattle.table.specs.Lists.{every}
+use Rattle.table.specs.Table.{upper}
+use Rattle.table.proofs.Lists.{never}
+use Rattle.text.specs.Token.{token, tokens}
+use Rattle.text.specs.Building.{denied}
+use Rattle.text.specs.Filled.{Reading, refused, written}
+use Rattle.text.specs.Reading.{start, run, answered, reads}
+use Rattle.text.specs.Grammar.{Ty, Tok, word, number, sign, printText, tokOf}
+use Rattle.text.specs.declared.token.Token.{Token}
+use Rattle.text.proofs.Toks.{kind-sign}
+use Rattle.text.proofs.Becomes.{MadeUp}
+use Rattle.text.proofs.Prefix.{Forbidden, three}
+use Rattle.spelling.specs.Spelling.{Spelt, a-name}
+use Rattle.spelling.specs.Places.{Placed, ran-out, malformed, a-blank, a-token}
+use Rattle.spelling.specs.Speller.{spell, Writable}
+use Rattle.spelling.specs.Theorems.{WellFormed}
+use Rattle.spelling.specs.Refusals.{At, upto-before, upto-here, RefusedMeans, ThreeMeans}
+use Rattle.spelling.proofs.Here.{next-here, past-here, found}
+use Rattle.spelling.proofs.Scan.{spelt-scanned}
+use Rattle.spelling.proofs.Read.{text-formed}
+use Rattle.spelling.proofs.Places.{upto-bad, placed-scanned, read-placed}
+use Rattle.spelling.proofs.Spell.{spell-spelt}
+use Rattle.spelling.proofs.Exact.{spells-writable, Written, print-written}
+use Rattle.spelling.proofs.Alike.{Stop, stop}
+
+-- ---- by 2 to 8
+
+run-read : (u : List ℕ) → reads u .question ≡ 0 → run u start (tokens u) .question ≡ 0
+unfolding reads answered denied
+run-read u h = go (leb (length u) 8192) h
+  where
+    go : (b : Bool) → cond b (run u start (tokens u)) (denied 1 0) .question ≡ 0 → run u start (tokens u) .question ≡ 0
+    go true h = h
+    go false h = absurd (omega arith)
+
+pub refused-means : RefusedMeans
+unfolding refused denied
+refused-means s q p l h = let r = read-placed s (refused q p) .0 h in go (r .0) (r .1) (leb (length s) 8192) (r .2)
+  where
+    go : (ks : List Token) → Placed s 0 ks → (b : Bool) → written (cond b (run s start ks) (denied 1 0)) ≡ refused q p
+        → (a : At s p) × ((u : List ℕ) (ts : List Tok) → Spelt u (upto-here a ts) → reads u .question ≡ 0 → ⊥)
+    go ks pl false e = let z : _≡_ {A = ℕ} 1 q = ap (λ (r : Reading). r .question) e in absurd (omega arith)
+    go ks pl true e =
+        let z : run s start ks .question ≡ q = ap (λ (r : Reading). r .question) e in
+        let f : Stop s start ks (run s start ks .at) = stop s ks start (λ n. omega arith) in (
+          record {
+            before = f .before;
+            here = f .here;
+            rest = f .rest;
+            split = subst (Placed s 0) (f .split) pl;
+            place = f .place ∙ ap (λ (r : Reading). r .at) e;
+          },
+          (λ u ts sp read. f .none u (tokens u) ts (spelt-scanned u _ .0 sp .0) (run-read u read)),
+        )
+
+-- ---- by 3
+
+bad-sign : (s : List ℕ) (k : Token) → k .kind ≡ 1 → tokOf s k ≡ sign 1
+bad-sign s k e = kind-sign s k 1 (λ q. omega arith) (λ q. omega arith) e
+
+-- the tokens that stand in a text can be written
+placed-written : (s : List ℕ) {u : List ℕ} {p : ℕ} {ks : List Token} → Placed u p ks → drop p s ≡ u → Written (map (tokOf s) ks)
+placed-written s (ran-out {p}) e = rw (kind-sign s (token 0 p p) 0 (λ q. omega arith) (λ q. omega arith) refl) (tt, tt)
+placed-written s (malformed {b} {p} i never) e = rw (bad-sign s (token 1 p p) refl) (tt, tt)
+placed-written s (a-blank {b} {p} {s = v} i pl) e = placed-written s pl (next-here s p b v e)
+placed-written s (a-token {t} {w} {s = r} {p = p} i o pl) e =
+    let f = found s p r i o e in
+    (subst Writable (sym (sym (ap (tokOf s) (f .is)) ∙ f .tok)) (spells-writable i), placed-written s pl (past-here s p w r e))
+
+made-up-written : (ts : List Tok) → MadeUp ts → Written ts
+unfolding upper every
+made-up-written [] m = tt
+made-up-written (word x ∷ ts) m =
+    (subst (λ (x : ℕ). Writable (word x)) (sym (m .0)) (spells-writable (a-name {w = 65 ∷ []} (refl, refl, omega arith))), made-up-written ts (m .1))
+made-up-written (number n ∷ ts) m = (subst (λ n. Writable (number n)) (sym (m .0)) (λ e z. never e refl), made-up-written ts (m .1))
+made-up-written (sign k ∷ ts) m = (tt, made-up-written ts m)
+
+-- the first of tokens and others
+front-written : (ts us vs : List Tok) → Written (ts ++ us) → Written vs → Written (ts ++ vs)
+front-written [] us vs w v = v
+front-written (t ∷ ts) us vs w v = (w .0, front-written ts us vs (w .1) v)
+
+front-formed : (ts us : List Tok) → WellFormed (ts ++ us) → WellFormed ts
+front-formed [] us w = tt
+front-formed (t ∷ ts) us w = (w .0, front-formed ts us (w .1))
+
+map-append : (s : List ℕ) (ks js : List Token) → map (tokOf s) (ks ++ js) ≡ map (tokOf s) ks ++ map (tokOf s) js
+map-append s [] js = refl
+map-append s (k ∷ ks) js = ap (λ (l : List Tok). tokOf s k ∷ l) (map-append s ks js)
+
+upto-front : (s : List ℕ) (ks js : List Token) → WellFormed (map (tokOf s) ks) → upto-bad (ks ++ js) ≡ ks ++ upto-bad js
+unfolding upto-bad
+upto-front s [] js w = refl
+upto-front s (k ∷ ks) js w = rw (ne-eqb (k .kind) 1 (λ e. w .0 (bad-sign s k e))) (ap (λ (l : List Token). k ∷ l) (upto-front s ks js (w .1)))
+
+-- the tokens before, and others made up, are those of a text
+text-made : (s : List ℕ) (p : ℕ) (a : At s p) (t : Ty) (us : List Tok) → MadeUp us → printText t ≡ upto-before a us
+    → (u : List ℕ) × (t : Ty) × (ts : List Tok) × Spelt u (printText t) × (printText t ≡ upto-before a ts)
+text-made s p a t us m e =
+    let w = rw (map-append s (a .before) (a .here ∷ a .rest)) at (placed-written s (a .split) refl) in
+    let v = front-written (map (tokOf s) (a .before)) _ us w (made-up-written us m) in
+    (spell t, t, us, spell-spelt t (print-written t (sign 0 ∷ []) (subst Written (sym e) v) .0), e)
+
+pub three-means : ThreeMeans
+unfolding upto-bad
+three-means s p h = go (three s p h)
+  where
+    go : Forbidden s p
+        → (a : At s p)
+        × ((t : Ty) (ts : List Tok) → printText t ≡ upto-here a ts → ⊥)
+        × ((u : List ℕ) × (t : Ty) × (ts : List Tok) × Spelt u (printText t) × (printText t ≡ upto-before a ts))
+    go f = decide (eqb (f .here .kind) 1) refl
+      where
+        formed : WellFormed (map (tokOf s) (f .before))
+        formed = front-formed (map (tokOf s) (f .before)) (f .some .1) (subst WellFormed (f .some .2) (text-formed (f .some .0)))
+
+        found : Placed s 0 (f .before ++ cond (eqb (f .here .kind) 1) (token 1 (f .here .start) (f .here .start) ∷ []) (f .here ∷ upto-bad (f .rest)))
+        found = placed-scanned s _ .1 (ap upto-bad (f .split) ∙ upto-front s (f .before) (f .here ∷ f .rest) formed)
+
+        at : (k : Token) (ks : List Token) → Placed s 0 (f .before ++ (k ∷ ks)) → k .start ≡ p → At s p
+        at k ks pl e = record { before = f .before; here = k; rest = ks; split = pl; place = e }
+
+        decide : (b : Bool) → eqb (f .here .kind) 1 ≡ b
+            → (a : At s p)
+            × ((t : Ty) (ts : List Tok) → printText t ≡ upto-here a ts → ⊥)
+            × ((u : List ℕ) × (t : Ty) × (ts : List Tok) × Spelt u (printText t) × (printText t ≡ upto-before a ts))
+        decide true e =
+            let k = token 1 (f .here .start) (f .here .start) in
+            let a = at k [] (rw e at found) (f .place) in (
+              a,
+              (λ t us q.
+                  f .none t us
+                  (q ∙ ap (λ (x : Tok). map (tokOf s) (f .before) ++ (x ∷ us)) (bad-sign s k refl ∙ sym (bad-sign s (f .here) (eqb-true (f .here .kind) 1 e))))),
+              text-made s p a (f .some .0) (f .some .1) (f .made-up) (f .some .2),
+            )
+        decide false e =
+            let a = at (f .here) (upto-bad (f .rest)) (rw e at found) (f .place) in
+            (a, f .none, text-made s p a (f .some .0) (f .some .1) (f .made-up) (f .some .2))

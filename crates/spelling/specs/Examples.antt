@@ -1,0 +1,46 @@
+-- Spellings that document 01 gives or rules out, one for each of its sentences on tokens.
+-- Assumes nothing.
+use mathlib.Core.Bool.{false}
+use mathlib.Core.List.{List, [], _∷_, _++_}
+use Prim.Native.Nat.{ℕ}
+use Prim.Native.String.{String}
+use Rattle.table.specs.Ascii.{ascii}
+use Rattle.text.specs.Token.{wordOf}
+use Rattle.text.specs.Number.{Signed}
+use Rattle.text.specs.Grammar.{sends, receives, int, Ty, stop, var, loop, choice, last, also, Tok, word, number, sign, printText}
+use Rattle.spelling.specs.Spelling.{Spelt}
+use Rattle.text.specs.Kind as K
+
+abbrev name : String → ℕ
+name x = wordOf (ascii x)
+
+abbrev plus : ℕ → Signed
+plus n = record { minus = false; value = n }
+
+-- document 01's P, as a type
+abbrev pub P : Ty
+P =
+    loop (name "X")
+    (choice sends
+    (also (name "Ask") (record { kind = int; low = plus 0; high = plus 100 } ∷ []) (choice receives (last (name "Ok") [] (var (name "X"))))
+    (last (name "Quit") [] stop)))
+
+abbrev Nothing : List ℕ → Type 0
+Nothing s = (ts : List Tok) → Spelt s ts → ⊥
+
+pub record Examples : Type 0 where
+  pub protocol : Spelt (ascii "rec X.+{!Ask(int[0..100]).&{?Ok().X},!Quit().end}") (printText P)
+  -- spaces and line feeds may stand before and after tokens; a tab may not
+  pub blanks : Spelt (0x0A ∷ 0x20 ∷ ascii "end" ++ (0x0A ∷ [])) (printText stop)
+  pub tab : Nothing (0x09 ∷ ascii "end")
+  -- a token that begins with a digit takes digits only
+  pub two-tokens : Spelt (ascii "5A") (number (plus 5) ∷ word (name "A") ∷ sign K.ran-out ∷ [])
+  -- one to eight bytes
+  pub eight : Spelt (ascii "Abcdefg8") (word (name "Abcdefg8") ∷ sign K.ran-out ∷ [])
+  pub nine : Nothing (ascii "Abcdefgh9")
+  -- no minus before 0, no leading zero
+  pub minus-zero : Nothing (ascii "-0")
+  pub leading-zero : Nothing (ascii "01")
+  -- dots, and words, take the longest run
+  pub three-dots : Nothing (ascii "...")
+  pub other-word : Nothing (ascii "ending")

@@ -1,0 +1,40 @@
+-- What a refusal by a question at a token means, in tokens that stand in the text (document 01, questions 2 to 8).
+-- Assumes nothing.
+use mathlib.Core.Path.{_≡_}
+use mathlib.Core.List.{List, _∷_, _++_, map}
+use Prim.Native.Nat.{ℕ, _≤_}
+use Rattle.text.specs.Grammar.{Ty, Tok, printText, tokOf}
+use Rattle.text.specs.Filled.{refused}
+use Rattle.text.specs.Reading.{reads}
+use Rattle.text.specs.declared.token.Token.{Token}
+use Rattle.spelling.specs.Spelling.{Spelt}
+use Rattle.spelling.specs.Places.{Placed}
+
+-- the token at p: what stands in the text is those before it, it itself and the rest
+pub record At (s : List ℕ) (p : ℕ) : Type 0 where
+  pub before : List Token
+  pub here : Token
+  pub rest : List Token
+  pub split : Placed s 0 (before ++ (here ∷ rest))
+  pub place : here .start ≡ p
+
+-- the tokens before it; the same and it itself; as the grammar sees them, with others to follow
+abbrev pub upto-before : {s : List ℕ} {p : ℕ} → At s p → List Tok → List Tok
+upto-before {s} a ts = map (tokOf s) (a .before) ++ ts
+
+abbrev pub upto-here : {s : List ℕ} {p : ℕ} → At s p → List Tok → List Tok
+upto-here {s} a ts = upto-before a (tokOf s (a .here) ∷ ts)
+
+-- A refusal by 2 to 8: no text that is read begins with the tokens up to and with the one refused.
+abbrev pub RefusedMeans : Type 0
+RefusedMeans =
+    (s : List ℕ) (q p : ℕ) → 2 ≤ q → reads s ≡ refused q p
+    → (a : At s p) × ((u : List ℕ) (ts : List Tok) → Spelt u (upto-here a ts) → reads u .question ≡ 0 → ⊥)
+
+-- A refusal by 3, besides: no type's text, legal or not, begins with them, and one begins with the tokens before.
+abbrev pub ThreeMeans : Type 0
+ThreeMeans =
+    (s : List ℕ) (p : ℕ) → reads s ≡ refused 3 p
+    → (a : At s p)
+    × ((t : Ty) (ts : List Tok) → printText t ≡ upto-here a ts → ⊥)
+    × ((u : List ℕ) × (t : Ty) × (ts : List Tok) × Spelt u (printText t) × (printText t ≡ upto-before a ts))

@@ -1,0 +1,70 @@
+-- A speller: a text of a type, each token's bytes followed by a space. So every type has a text whose names, labels and numbers can be
+-- written at all.
+-- Assumes nothing.
+use mathlib.Core.Path.{_≡_}
+use mathlib.Core.Bool.{true, cond}
+use mathlib.Core.List.{List, [], _∷_, _++_}
+use Prim.Native.Nat.{ℕ, zero, suc, _+_, _/_, _%_}
+use Prim.Native.String.{String}
+use lib.Dec.{ltb, eqb}
+use Rattle.table.specs.Table.{legal-label}
+use Rattle.table.specs.View.{labelOf}
+use Rattle.text.specs.Token.{wordOf}
+use Rattle.text.specs.Grammar.{Field, Ty, stop, var, loop, choice, Br, last, also, Tok, word, number, sign, printText}
+use Rattle.table.specs.Ascii.{ascii}
+use Rattle.spelling.specs.Spelling.{signs, dots, words}
+
+-- the bytes before the first 0x00
+unfoldable pub trim : List ℕ → List ℕ
+trim [] = []
+trim (c ∷ r) = cond (eqb c 0) [] (c ∷ trim r)
+
+-- the decimal digits of a number below the fuel, without a leading zero
+unfoldable pub decimal : ℕ → ℕ → List ℕ
+decimal zero n = []
+decimal (suc fuel) n = cond (ltb n 10) ((48 + n) ∷ []) (decimal fuel (n / 10) ++ ((48 + n % 10) ∷ []))
+
+-- what stands beside k in a list
+unfoldable pub beside : List (ℕ × String) → ℕ → List ℕ
+beside [] k = []
+beside (e ∷ es) k = cond (eqb k (e .0)) (ascii (e .1)) (beside es k)
+
+abbrev pub bytes : Tok → List ℕ
+bytes (word x) = trim (labelOf x)
+bytes (number n) = cond (n .minus) (ascii "-") [] ++ decimal (suc (n .value)) (n .value)
+bytes (sign k) = beside (signs ++ dots ++ words) k
+
+unfoldable pub spelling : List Tok → List ℕ
+spelling [] = []
+spelling (t ∷ ts) = bytes t ++ (0x20 ∷ spelling ts)
+
+unfoldable pub spell : Ty → List ℕ
+spell t = spelling (printText t)
+
+-- ---- which types have a text
+
+-- a word whose eight bytes are a legal label; any number but -0
+abbrev pub Writable : Tok → Type 0
+Writable (word x) = (legal-label (labelOf x) ≡ true) × (wordOf (labelOf x) ≡ x)
+Writable (number n) = n .minus ≡ true → n .value ≡ 0 → ⊥
+Writable (sign k) = Unit {0}
+
+-- a property of the names, labels and numbers of a type
+module _ (P : Tok → Type 0) where
+  abbrev pub OfFields : List Field → Type 0
+  OfFields [] = Unit {0}
+  OfFields (f ∷ fs) = P (number (f .low)) × (P (number (f .high)) × OfFields fs)
+
+  abbrev mutual
+    pub Of : Ty → Type 0
+    Of stop = Unit {0}
+    Of (var x) = P (word x)
+    Of (loop x t) = P (word x) × Of t
+    Of (choice w bs) = OfBr bs
+
+    pub OfBr : Br → Type 0
+    OfBr (last l fs t) = P (word l) × (OfFields fs × Of t)
+    OfBr (also l fs t bs) = P (word l) × (OfFields fs × (Of t × OfBr bs))
+
+abbrev pub Spellable : Ty → Type 0
+Spellable t = Of Writable t

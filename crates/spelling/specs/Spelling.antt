@@ -1,0 +1,83 @@
+-- What a text spells (document 01, "Protocol text"). This is no scanner: it gives the bytes of each token, and says that a text is tokens
+-- and blanks, each token as long a run as it can be.
+-- Assumes nothing.
+use mathlib.Core.Path.{_≡_}
+use mathlib.Core.Bool.{Bool, true, false, _&&_, _||_}
+use mathlib.Core.Logic.{_⊎_}
+use mathlib.Core.List.{List, [], _∷_, _++_}
+use Prim.Native.Nat.{ℕ, _≤_}
+use Prim.Native.String.{String}
+use lib.Dec.{leb, eqb}
+use lib.ListN.{length}
+use Rattle.table.specs.Lists.{every}
+use Rattle.table.specs.Table.{upper, letter-or-digit}
+use Rattle.text.specs.Token.{wordOf}
+use Rattle.text.specs.Number.{valueOf}
+use Rattle.text.specs.Grammar.{Tok, word, number, sign}
+use Rattle.table.specs.Ascii.{ascii}
+use Rattle.text.specs.Kind as K
+
+-- ---- bytes: `upper` is A-Z, `letter-or-digit` A-Z, a-z, 0-9
+
+-- 0-9
+abbrev pub digit : ℕ → Bool
+digit b = leb 48 b && leb b 57
+
+abbrev pub dot : ℕ → Bool
+dot b = eqb b 46
+
+-- a space or a line feed
+abbrev pub blank : ℕ → Bool
+blank b = eqb b 0x20 || eqb b 0x0A
+
+-- ---- tokens
+
+abbrev pub signs : List (ℕ × String)
+signs =
+    (K.of "+", "+") ∷ (K.of "&", "&") ∷ (K.of "{", "{") ∷ (K.of "}", "}") ∷ (K.of ",", ",") ∷ (K.of "!", "!") ∷ (K.of "?", "?")
+    ∷ (K.of "(", "(") ∷ (K.of ")", ")") ∷ (K.of "[", "[") ∷ (K.of "]", "]")
+    ∷ []
+
+abbrev pub dots : List (ℕ × String)
+dots = (K.of ".", ".") ∷ (K.dots, "..") ∷ []
+
+abbrev pub words : List (ℕ × String)
+words = (K.of "end", "end") ∷ (K.of "rec", "rec") ∷ (K.of "int", "int") ∷ (K.of "text", "text") ∷ (K.of "flag", "flag") ∷ []
+
+-- w is what stands beside k in a list
+abbrev pub Listed : List (ℕ × String) → ℕ → List ℕ → Type 0
+Listed [] k w = ⊥
+Listed (e ∷ es) k w = ((k ≡ e .0) × (w ≡ ascii (e .1))) ⊎ Listed es k w
+
+-- A-Z followed by A-Z, a-z, 0-9, one to eight bytes in all
+abbrev pub Name : List ℕ → Type 0
+Name [] = ⊥
+Name (b ∷ w) = (upper b ≡ true) × (every letter-or-digit w ≡ true) × (length (b ∷ w) ≤ 8)
+
+-- digits without a leading zero
+abbrev pub Digits : List ℕ → Type 0
+Digits [] = ⊥
+Digits (b ∷ w) = (every digit (b ∷ w) ≡ true) × (b ≡ 48 → ⊥)
+
+-- a token, its bytes, and which bytes would go on with it: names and words (letters and digits), digits and dots take the longest run
+pub data Spells : Tok → List ℕ → (ℕ → Bool) → Type 0 where
+  a-sign : {k : ℕ} {w : List ℕ} → Listed signs k w → Spells (sign k) w (λ b. false)
+  a-dot : {k : ℕ} {w : List ℕ} → Listed dots k w → Spells (sign k) w dot
+  a-word : {k : ℕ} {w : List ℕ} → Listed words k w → Spells (sign k) w letter-or-digit
+  a-name : {w : List ℕ} → Name w → Spells (word (wordOf w)) w letter-or-digit
+  a-zero : Spells (number (record { minus = false; value = 0 })) (ascii "0") digit
+  a-number : {w : List ℕ} → Digits w → Spells (number (record { minus = false; value = valueOf 0 w })) w digit
+  a-negative : {w : List ℕ} → Digits w → Spells (number (record { minus = true; value = valueOf 0 w })) (ascii "-" ++ w) digit
+
+-- ---- a text
+
+-- the bytes that follow a token do not go on with it
+abbrev pub Ends : (ℕ → Bool) → List ℕ → Type 0
+Ends more [] = Unit {0}
+Ends more (b ∷ s) = more b ≡ false
+
+-- blanks and tokens in any order, and at last that the text ran out
+pub data Spelt : List ℕ → List Tok → Type 0 where
+  ran-out : Spelt [] (sign K.ran-out ∷ [])
+  a-blank : {b : ℕ} {s : List ℕ} {ts : List Tok} → blank b ≡ true → Spelt s ts → Spelt (b ∷ s) ts
+  a-token : {t : Tok} {w s : List ℕ} {more : ℕ → Bool} {ts : List Tok} → Spells t w more → Ends more s → Spelt s ts → Spelt (w ++ s) (t ∷ ts)

@@ -1,0 +1,88 @@
+-- The theorems on texts, each as a type that proofs/ has a value of. A scanner's words stand in the first of them only.
+-- Assumes nothing.
+use mathlib.Core.Path.{_≡_}
+use mathlib.Core.Bool.{cond}
+use mathlib.Core.Logic.{_↔_}
+use mathlib.Core.List.{List, [], _∷_, map}
+use Prim.Native.Nat.{ℕ, suc, _≤_}
+use lib.Dec.{leb}
+use lib.ListN.{length}
+use Rattle.table.specs.View.{labelOf, view}
+use Rattle.text.specs.Token.{tokens, wordOf}
+use Rattle.text.specs.Number.{valueOf}
+use Rattle.text.specs.Grammar.{text-limit, Ty, Tok, sign, printText, tokOf, tableOf, Legal}
+use Rattle.text.specs.Building.{denied}
+use Rattle.text.specs.Filled.{Reading, came-out, filled, padded, written}
+use Rattle.text.specs.Reading.{start, run, reads}
+use Rattle.text.specs.declared.token.Token.{Token}
+use Rattle.spelling.specs.Spelling.{Name, Spelt}
+use Rattle.spelling.specs.Places.{Placed}
+use Rattle.spelling.specs.Speller.{trim, decimal, spell, Spellable}
+use Rattle.table.specs.Table as T
+use Rattle.text.specs.Kind as K
+
+-- ---- texts and the scanner
+
+-- no token is malformed
+abbrev pub WellFormed : List Tok → Type 0
+WellFormed [] = Unit {0}
+WellFormed (t ∷ ts) = (t ≡ sign K.bad → ⊥) × WellFormed ts
+
+-- A text spells tokens exactly when the scanner finds them in it and none of them is malformed.
+abbrev pub SpeltScanned : Type 0
+SpeltScanned = (s : List ℕ) (ts : List Tok) → Spelt s ts ↔ ((map (tokOf s) (tokens s) ≡ ts) × WellFormed ts)
+
+-- A text spells at most one list of tokens.
+abbrev pub SpeltOnce : Type 0
+SpeltOnce = (s : List ℕ) (ts us : List Tok) → Spelt s ts → Spelt s us → ts ≡ us
+
+-- ---- reading
+
+-- A text is read, into r, exactly when it is at most 8,192 bytes long and spells a legal type, and r is that type's table.
+abbrev pub ReadExactly : Type 0
+ReadExactly =
+    (s : List ℕ) (r : Reading)
+    → ((reads s ≡ r) × (r .question ≡ 0))
+    ↔ ((t : Ty) × (length s ≤ text-limit) × Spelt s (printText t) × Legal t × (r ≡ came-out 0 0 (filled (tableOf t))))
+
+-- The same of what is seen of the table's words.
+abbrev pub ReadSeen : Type 0
+ReadSeen =
+    (s : List ℕ) (T : T.Table)
+    → ((reads s .question ≡ 0) × (view (reads s .table) ≡ T))
+    ↔ ((t : Ty) × (length s ≤ text-limit) × Spelt s (printText t) × Legal t × (T ≡ tableOf t))
+
+-- Reading any text, refusals and their places included, asks the questions at the tokens that stand in it.
+abbrev pub ReadPlaced : Type 0
+ReadPlaced =
+    (s : List ℕ) (r : Reading)
+    → (reads s ≡ r)
+    ↔ ((ks : List Token) × Placed s 0 ks × (written (cond (leb (length s) text-limit) (run s start ks) (denied 1 0)) ≡ r))
+
+-- ---- the speller
+
+-- The digits of a number, by division by ten, have its value.
+abbrev pub DecimalValue : Type 0
+DecimalValue = (n : ℕ) → valueOf 0 (decimal (suc n) n) ≡ n
+
+-- A type has a text exactly when its names, labels and numbers can be written.
+abbrev pub SpellableExactly : Type 0
+SpellableExactly = (t : Ty) → Spellable t ↔ ((s : List ℕ) × Spelt s (printText t))
+
+-- The speller's text of a legal type is read, where it is not too long.
+abbrev pub SpellRead : Type 0
+SpellRead = (t : Ty) → Spellable t → Legal t → length (spell t) ≤ text-limit → reads (spell t) ≡ came-out 0 0 (filled (tableOf t))
+
+-- ---- names
+
+-- The eight bytes of a name's word are the name's, filled up with 0x00.
+abbrev pub NameBytes : Type 0
+NameBytes = (w : List ℕ) → Name w → labelOf (wordOf w) ≡ padded 8 w
+
+-- So a name comes back from its word.
+abbrev pub NameBack : Type 0
+NameBack = (w : List ℕ) → Name w → trim (labelOf (wordOf w)) ≡ w
+
+-- Two names are the same exactly when their bytes are.
+abbrev pub NameOnce : Type 0
+NameOnce = (v w : List ℕ) → Name v → Name w → (wordOf v ≡ wordOf w) ↔ (v ≡ w)
