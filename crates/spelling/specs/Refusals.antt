@@ -31,7 +31,8 @@ RefusedMeans =
     (s : List ℕ) (q p : ℕ) → 2 ≤ q → reads s ≡ refused q p
     → At s p × ((a : At s p) (u : List ℕ) (ts : List Tok) → Spelt u (upto-here a ts) → reads u .question ≡ 0 → ⊥)
 
--- By 3, besides: no type's tokens, the type legal or not, begin with them; and there is a text of a type whose tokens begin with those before.
+-- By 3, besides: no type's tokens, the type legal or not, begin with them; and there is a text of a type whose tokens begin with those
+-- before.
 abbrev pub ThreeMeans : Type 0
 ThreeMeans =
     (s : List ℕ) (p : ℕ) → reads s ≡ refused 3 p → (a : At s p)
