@@ -8,9 +8,10 @@
  * header, which is C, is tested.
  *
  * What every call keeps:
- *   - No precondition on values: any table, any bytes and any number may be given, and what breaks the rules is refused by the
- *     number of a question; a number that is too large is refused, never cut. On a refusal nothing that was lent is changed, any
- *     table given back is empty and any count 0.
+ *   - No precondition on values: any table, any bytes and any number may be given. What breaks the rules is refused by the number
+ *     of a question; three calls carry no number, and answer 0 instead: sojimu_due and sojimu_report a length, sojimu_label a
+ *     label. A number that is too large is refused, never cut. On a refusal nothing that was lent is changed, any table given
+ *     back is empty and any count 0.
  *   - Every byte of what is given back is determined: no struct here has padding.
  *   - No global state, no allocation, no lock, no call back, no input or output: calls may be made from any threads, as long as
  *     what one call writes (state, out, list) is in use by no other. Of the C library only memcpy and memset are called.
@@ -58,7 +59,7 @@ extern "C" {
 /* ---- constants */
 
 /* This header's version: raised whenever a struct or a call changes. */
-#define SOJIMU_VERSION UINT32_C(1)
+#define SOJIMU_VERSION UINT32_C(2)
 
 /* Limits. A message has at most 285 bytes, a list that question 17 never refuses 1,024 entries, a buffer that holds every report
  * 16,384 bytes. As soon as SOJIMU_FRONT bytes are there, a message announces its length. */
@@ -93,8 +94,8 @@ enum { SOJIMU_KIND_INT = 0, SOJIMU_KIND_TEXT = 1, SOJIMU_KIND_FLAG = 2 };
 /* Numbers are kept in offset form: the value (of an int; a text's length; 0 or 1 of a flag) plus this. */
 #define SOJIMU_ORIGIN UINT32_C(0x80000000)
 
-/* Sides, and whose turn it is. */
-enum { SOJIMU_DEVICE = 0, SOJIMU_HOST = 1, SOJIMU_NOBODY = 2 };
+/* Sides. */
+enum { SOJIMU_DEVICE = 0, SOJIMU_HOST = 1 };
 
 /* A conversation's standing. */
 enum { SOJIMU_RUNNING = 0, SOJIMU_DEVICE_BLAMED = 1, SOJIMU_HOST_BLAMED = 2 };
@@ -133,7 +134,7 @@ struct sojimu_reading {
     struct sojimu_table table;
 };
 
-/* The same without the table, which the library puts into the place that is lent for it. */
+/* The same without the table, which is given back in the place that is passed for it. */
 struct sojimu_told {
     uint32_t question, at;
 };
@@ -153,6 +154,11 @@ struct sojimu_head {
  * kept. */
 struct sojimu_state {
     uint8_t position, standing;
+};
+
+/* Whose turn it is: question 0 and SOJIMU_DEVICE or SOJIMU_HOST, or 9, 10 or 11 and side 0. */
+struct sojimu_turn {
+    uint32_t question, side;
 };
 
 /* A step's verdict. refused: `question` is 9 to 16. blamed: `party` is SOJIMU_DEVICE or SOJIMU_HOST, `reason` 1 to 3, and with
@@ -192,6 +198,7 @@ SOJIMU_HOLDS(sizeof(struct sojimu_told) == 8 && SOJIMU_AT(told, question, 0) && 
 SOJIMU_HOLDS(sizeof(struct sojimu_turned) == 9364 && SOJIMU_AT(turned, question, 0) && SOJIMU_AT(turned, table, 4));
 SOJIMU_HOLDS(sizeof(struct sojimu_head) == 8 && SOJIMU_AT(head, question, 0) && SOJIMU_AT(head, length, 4));
 SOJIMU_HOLDS(sizeof(struct sojimu_state) == 2 && SOJIMU_AT(state, position, 0) && SOJIMU_AT(state, standing, 1));
+SOJIMU_HOLDS(sizeof(struct sojimu_turn) == 8 && SOJIMU_AT(turn, question, 0) && SOJIMU_AT(turn, side, 4));
 SOJIMU_HOLDS(sizeof(struct sojimu_verdict) == 5 && SOJIMU_AT(verdict, outcome, 0) && SOJIMU_AT(verdict, question, 1));
 SOJIMU_HOLDS(SOJIMU_AT(verdict, party, 2) && SOJIMU_AT(verdict, reason, 3) && SOJIMU_AT(verdict, field, 4));
 SOJIMU_HOLDS(sizeof(struct sojimu_due) == 8 && SOJIMU_AT(due, side, 0) && SOJIMU_AT(due, length, 4));
@@ -211,10 +218,7 @@ size_t sojimu_raw_report(const uint8_t *protocol, size_t protocol_length, const 
 struct sojimu_head sojimu_raw_front(const uint8_t *bytes, size_t length);
 bool sojimu_raw_broken(const uint8_t *bytes, size_t length);
 uint32_t sojimu_raw_refusal(const uint8_t *bytes, size_t length);
-uint64_t sojimu_raw_label_word(const uint8_t *bytes, size_t length);
 bool sojimu_raw_has_label(const uint8_t *bytes, size_t length, uint64_t label);
-uint32_t sojimu_raw_number(const uint8_t *bytes, size_t length, size_t at);
-size_t sojimu_raw_first_length(const uint8_t *bytes, size_t length);
 struct sojimu_made sojimu_raw_make(const struct sojimu_table *table, uint32_t branch, uint32_t named, uint8_t *out, size_t room);
 struct sojimu_verdict sojimu_raw_step(const struct sojimu_table *table, struct sojimu_state *state, uint32_t side,
                                       const uint8_t *message, size_t length, uint8_t *out, size_t room);
@@ -315,28 +319,10 @@ static inline uint32_t sojimu_refusal(const uint8_t *bytes, size_t length)
     return sojimu_raw_refusal(sojimu_lent(bytes, length), length);
 }
 
-/* The first eight bytes as one number, high byte first; 0 where there are fewer. */
-static inline uint64_t sojimu_label_word(const uint8_t *bytes, size_t length)
-{
-    return sojimu_raw_label_word(sojimu_lent(bytes, length), length);
-}
-
 /* Whether there are eight bytes and they are this label. */
 static inline bool sojimu_has_label(const uint8_t *bytes, size_t length, uint64_t label)
 {
     return sojimu_raw_has_label(sojimu_lent(bytes, length), length, label);
-}
-
-/* The number in offset form whose four bytes stand at a place; 0 where they do not all stand there. */
-static inline uint32_t sojimu_number(const uint8_t *bytes, size_t length, size_t at)
-{
-    return sojimu_raw_number(sojimu_lent(bytes, length), length, at);
-}
-
-/* How long the first message of some waiting bytes is; 0 when 13 or 14 refuses or it is not all there. */
-static inline size_t sojimu_first_length(const uint8_t *bytes, size_t length)
-{
-    return sojimu_raw_first_length(sojimu_lent(bytes, length), length);
 }
 
 /* Makes the message of a branch: every number low, or the one in field `named` high (SOJIMU_ALL_LOW: none), texts filled with
@@ -414,8 +400,15 @@ static inline struct sojimu_made sojimu_encode(uint64_t label, const struct soji
 /* The state of a conversation that begins: position 0, running. */
 struct sojimu_state sojimu_fresh(void);
 
-/* Whose turn it is: SOJIMU_DEVICE, SOJIMU_HOST, or SOJIMU_NOBODY when 9, 10 or 11 would refuse. */
-uint8_t sojimu_turn(const struct sojimu_table *table, struct sojimu_state state);
+/* Three of the functions below have the names of the structs that they return, as `stat` has. C++ allows that, and g++ warns of
+ * it. */
+#if defined(__cplusplus) && defined(__GNUC__)
+#pragma GCC diagnostic push
+#pragma GCC diagnostic ignored "-Wshadow"
+#endif
+
+/* Whose turn it is. Asks 9, 10, 11. */
+struct sojimu_turn sojimu_turn(const struct sojimu_table *table, struct sojimu_state state);
 
 /* One step. `side` says who sends the message; any number but SOJIMU_DEVICE and SOJIMU_HOST is no side's turn. Asks 9, 10, 11,
  * 12, 13, 14, 15, 16; on a refusal state and `out` are unchanged. Else the message is judged against the position's branches. If
@@ -427,15 +420,9 @@ static inline struct sojimu_verdict sojimu_step(const struct sojimu_table *table
     return sojimu_raw_step(table, state, side, sojimu_lent(message, length), length, sojimu_lent(out, room), room);
 }
 
-/* The next two functions have the names of the structs that they return, as `stat` has. C++ allows that, and g++ warns of it. */
-#if defined(__cplusplus) && defined(__GNUC__)
-#pragma GCC diagnostic push
-#pragma GCC diagnostic ignored "-Wshadow"
-#endif
-
 /* The due message, from the bytes that wait on either side: the first message of the side whose turn it is. Length 0 when 13 or
- * 14 would refuse or the message is not all there; side SOJIMU_DEVICE and length 0 when 9, 10 or 11 would. This call alone
- * carries no number. */
+ * 14 would refuse or the message is not all there; side SOJIMU_DEVICE and length 0 when 9, 10 or 11 would, of which sojimu_turn
+ * tells the number. */
 static inline struct sojimu_due sojimu_due(const struct sojimu_table *table, struct sojimu_state state, const uint8_t *device,
                                            size_t device_length, const uint8_t *host, size_t host_length)
 {

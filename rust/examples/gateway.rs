@@ -130,7 +130,7 @@ fn pump(protocol: &Table, talk: &mut Conversation, log: &mut dyn Write) -> io::R
 
 /// Nothing is due. Can it be once more bytes have come?
 fn may_go_on(protocol: &Table, talk: &mut Conversation, side: Party, log: &mut dyn Write) -> io::Result<bool> {
-    if protocol.turn(talk.state).is_none() {
+    if protocol.turn(talk.state).is_err() {
         return Ok(false);
     }
     if message::broken(talk.waiting(side)) {

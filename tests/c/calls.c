@@ -65,7 +65,7 @@ static void texts(void)
 static void tables(void)
 {
     struct sojimu_table p = table_of(P);
-    const uint64_t ask = sojimu_label_word(ASK_100, sizeof ASK_100);
+    const uint64_t ask = UINT64_C(0x41736B0000000000);
     CHECK(p.states == 3 && p.branches == 3);
     CHECK(p.sort[0] == SOJIMU_SENDS && p.sort[1] == SOJIMU_RECEIVES && p.sort[2] == SOJIMU_ENDS);
     CHECK(p.owner[0] == 0 && p.owner[1] == 1 && p.owner[2] == 0);
@@ -109,9 +109,6 @@ static void questions(void)
     CHECK(sojimu_front(m, n).question == 0 && sojimu_front(m, n).length == n);
     CHECK(sojimu_front(m, n + 5).question == 0 && sojimu_front(m, n + 5).length == n);
     CHECK(sojimu_front(m, 13).question == 13 && sojimu_front(m, 13).length == 0);
-    CHECK(sojimu_first_length(m, n) == n && sojimu_first_length(m, n + 5) == n && sojimu_first_length(m, n - 1) == 0);
-    CHECK(sojimu_number(m, n, 10) == SOJIMU_ORIGIN + 100 && sojimu_number(m, n, 11) == 0);
-    CHECK(sojimu_label_word(m, n) == UINT64_C(0x41736B0000000000) && sojimu_label_word(m, 7) == 0);
     CHECK(sojimu_has_label(m, n, UINT64_C(0x41736B0000000000)));
     CHECK(!sojimu_has_label(m, n, UINT64_C(0x41736B0000000001)) && !sojimu_has_label(m, 7, UINT64_C(0x41736B0000000000)));
 
@@ -120,7 +117,7 @@ static void questions(void)
     n = with_number(m, "Ask", SOJIMU_KIND_FLAG, 2);
     CHECK(sojimu_refusal(m, n) == 14);
     n = with_number(m, "Say", SOJIMU_KIND_TEXT, 3);
-    CHECK(sojimu_refusal(m, n) == 15 && sojimu_front(m, n).length == n + 3 && sojimu_first_length(m, n) == 0);
+    CHECK(sojimu_refusal(m, n) == 15 && sojimu_front(m, n).length == n + 3);
     CHECK(sojimu_refusal(m, n + 3) == 0);
     with_number(m, "ask", SOJIMU_KIND_INT, 0);
     CHECK(sojimu_refusal(m, 14) == 13);
@@ -269,6 +266,11 @@ static void refusals(void)
     CHECK(refuses(&p, unknown, 2, NULL, 0, 0, 9));
 }
 
+static bool turn_is(struct sojimu_turn t, uint32_t question, uint32_t side)
+{
+    return t.question == question && t.side == side;
+}
+
 static void conversation(void)
 {
     const struct sojimu_table p = table_of(P);
@@ -278,13 +280,13 @@ static void conversation(void)
     plain(quit, "Quit");
     for (int32_t i = 0; i < 1000; i++) {
         const size_t n = with_number(ask, "Ask", SOJIMU_KIND_INT, i % 101);
-        CHECK(sojimu_turn(&p, s) == SOJIMU_DEVICE);
+        CHECK(turn_is(sojimu_turn(&p, s), 0, SOJIMU_DEVICE));
         CHECK(steps_to(&p, &s, SOJIMU_DEVICE, ask, n, n, FORWARD, 1, SOJIMU_RUNNING));
-        CHECK(sojimu_turn(&p, s) == SOJIMU_HOST);
+        CHECK(turn_is(sojimu_turn(&p, s), 0, SOJIMU_HOST));
         CHECK(steps_to(&p, &s, SOJIMU_HOST, ok, sizeof ok, ROOM, FORWARD, 0, SOJIMU_RUNNING));
     }
     CHECK(steps_to(&p, &s, SOJIMU_DEVICE, quit, sizeof quit, ROOM, FORWARD, 2, SOJIMU_RUNNING));
-    CHECK(sojimu_turn(&p, s) == SOJIMU_NOBODY);
+    CHECK(turn_is(sojimu_turn(&p, s), 11, 0));
     CHECK(refuses(&p, s, SOJIMU_DEVICE, quit, sizeof quit, ROOM, 11));
 }
 
@@ -315,10 +317,12 @@ static void due(void)
     CHECK(due_is(sojimu_due(&p, blamed, device, n, host, 9), SOJIMU_DEVICE, 0));
     CHECK(due_is(sojimu_due(&p, unknown, device, n, host, 9), SOJIMU_DEVICE, 0));
     CHECK(due_is(sojimu_due(&p, beyond, device, n, host, 9), SOJIMU_DEVICE, 0));
-    CHECK(sojimu_turn(&p, beyond) == SOJIMU_NOBODY && sojimu_turn(&p, unknown) == SOJIMU_NOBODY);
+    CHECK(turn_is(sojimu_turn(&p, beyond), 9, 0) && turn_is(sojimu_turn(&p, ended), 11, 0));
+    CHECK(turn_is(sojimu_turn(&p, blamed), 10, 0) && turn_is(sojimu_turn(&p, unknown), 10, 0));
     device[9] = 3;
     CHECK(due_is(sojimu_due(&p, sends, device, n, host, 9), SOJIMU_DEVICE, 0));
     p.states = 33;
+    CHECK(turn_is(sojimu_turn(&p, ended), 9, 0) && turn_is(sojimu_turn(&p, blamed), 9, 0));
     CHECK(due_is(sojimu_due(&p, receives, device, n, host, 9), SOJIMU_DEVICE, 0));
 }
 
@@ -336,7 +340,7 @@ static struct sojimu_verdict play(const struct sojimu_table *device, const struc
     struct sojimu_verdict v = {SOJIMU_FORWARDED, 0, 0, 0, 0};
     uint8_t m[SOJIMU_MESSAGE];
     for (uint32_t i = 0; i < f.count; i++) {
-        const uint8_t side = sojimu_turn(protocol, s);
+        const uint32_t side = sojimu_turn(protocol, s).side;
         const uint32_t named = i + 1 == f.count ? f.high : SOJIMU_ALL_LOW;
         const struct sojimu_made made = sojimu_make(side == SOJIMU_DEVICE ? device : protocol, list[i], named, m, sizeof m);
         CHECK(v.outcome == SOJIMU_FORWARDED && made.question == 0);

@@ -83,6 +83,8 @@ GIVES(give_made_refused, sojimu_made, sojimu_make(&p, 7, 0, out, ROOM))
 GIVES(give_forwarded, sojimu_verdict, sojimu_step(&p, &s, SOJIMU_DEVICE, ASK_100, sizeof ASK_100, out, ROOM))
 GIVES(give_refused, sojimu_verdict, sojimu_step(&p, &s, SOJIMU_HOST, ASK_100, sizeof ASK_100, out, ROOM))
 GIVES(give_blamed, sojimu_verdict, sojimu_step(&p, &s, SOJIMU_DEVICE, (const uint8_t *)"No\0\0\0\0\0\0", 9, out, ROOM))
+GIVES(give_turn, sojimu_turn, sojimu_turn(&p, s))
+GIVES(give_turn_refused, sojimu_turn, sojimu_turn(&empty, s))
 GIVES(give_due, sojimu_due, sojimu_due(&p, s, ASK_100, sizeof ASK_100, NULL, 0))
 GIVES(give_due_none, sojimu_due, sojimu_due(&empty, s, ASK_100, sizeof ASK_100, NULL, 0))
 GIVES(give_fits, sojimu_fit, sojimu_fit(&p, &p, list, SOJIMU_LIST))
@@ -105,6 +107,8 @@ static void bytes_determined(void)
     CHECK(determined(give_forwarded, sizeof(struct sojimu_verdict)));
     CHECK(determined(give_refused, sizeof(struct sojimu_verdict)));
     CHECK(determined(give_blamed, sizeof(struct sojimu_verdict)));
+    CHECK(determined(give_turn, sizeof(struct sojimu_turn)));
+    CHECK(determined(give_turn_refused, sizeof(struct sojimu_turn)));
     CHECK(determined(give_due, sizeof(struct sojimu_due)));
     CHECK(determined(give_due_none, sizeof(struct sojimu_due)));
     CHECK(determined(give_fits, sizeof(struct sojimu_fit)));
@@ -129,8 +133,7 @@ static void nothing(void)
     CHECK(sojimu_report(text, strlen(P), text, strlen(P), NULL, 0) == 0);
     CHECK(sojimu_front(NULL, 0).question == 13 && sojimu_front(NULL, 0).length == 0);
     CHECK(!sojimu_broken(NULL, 0) && sojimu_refusal(NULL, 0) == 13);
-    CHECK(sojimu_label_word(NULL, 0) == 0 && !sojimu_has_label(NULL, 0, 0));
-    CHECK(sojimu_number(NULL, 0, 0) == 0 && sojimu_number(NULL, 0, SIZE_MAX) == 0 && sojimu_first_length(NULL, 0) == 0);
+    CHECK(!sojimu_has_label(NULL, 0, 0));
     CHECK(sojimu_make(&p, 0, SOJIMU_ALL_LOW, NULL, 0).question == 16);
     CHECK(sojimu_step(&p, &s, SOJIMU_DEVICE, NULL, 0, NULL, 0).question == 13);
     CHECK(sojimu_step(&p, &s, SOJIMU_DEVICE, NULL, 0, out, ROOM).question == 13);
@@ -187,11 +190,12 @@ static bool all_nine(const struct sojimu_table *t)
     struct sojimu_state s = START;
     const struct sojimu_turned d = sojimu_dual(t);
     const struct sojimu_verdict v = sojimu_step(t, &s, SOJIMU_DEVICE, ASK_100, sizeof ASK_100, out, ROOM);
+    const struct sojimu_turn turn = sojimu_turn(t, s);
     const struct sojimu_due due = sojimu_due(t, s, ASK_100, sizeof ASK_100, ASK_100, sizeof ASK_100);
     const struct sojimu_fit f = sojimu_fit(t, &p, list, SOJIMU_LIST), g = sojimu_fit(&p, t, list, SOJIMU_LIST);
     return !sojimu_sound(t) && !sojimu_sound_at(t, 0) && d.question == 9 && same_tables(&d.table, &empty) &&
            v.outcome == SOJIMU_REFUSED && v.question == 9 && s.position == 0 && s.standing == SOJIMU_RUNNING &&
-           sojimu_turn(t, s) == SOJIMU_NOBODY && due.side == SOJIMU_DEVICE && due.length == 0 &&
+           turn.question == 9 && turn.side == 0 && due.side == SOJIMU_DEVICE && due.length == 0 &&
            f.outcome == SOJIMU_FIT_REFUSED && f.question == 9 && g.outcome == SOJIMU_FIT_REFUSED && g.question == 9 &&
            unmade(sojimu_make(t, 0, SOJIMU_ALL_LOW, out, ROOM), 9) && marked_from(0);
 }
@@ -258,7 +262,7 @@ static void words_beyond(void)
     CHECK(sojimu_dual(&t).question == 0 && sojimu_dual(&t).table.sort[0] == SOJIMU_RECEIVES);
     CHECK(sojimu_make(&t, 0, 0, out, ROOM).length == sizeof ASK_100 && opens(ASK_100, sizeof ASK_100));
     CHECK(sojimu_step(&t, &s, SOJIMU_DEVICE, ASK_100, sizeof ASK_100, out, ROOM).outcome == SOJIMU_FORWARDED);
-    CHECK(s.position == 1 && sojimu_turn(&t, s) == SOJIMU_HOST);
+    CHECK(s.position == 1 && sojimu_turn(&t, s).question == 0 && sojimu_turn(&t, s).side == SOJIMU_HOST);
     CHECK(sojimu_fit(&t, &p, list, 9).outcome == SOJIMU_FITS && sojimu_fit(&p, &t, list, 9).outcome == SOJIMU_FITS);
 }
 
@@ -291,7 +295,7 @@ static void random_words(void)
 static void labels(void)
 {
     const uint64_t ask = UINT64_C(0x41736B0000000000);
-    CHECK(sojimu_label("Ask") == ask && sojimu_label_word(ASK_100, sizeof ASK_100) == ask);
+    CHECK(sojimu_label("Ask") == ask && sojimu_has_label(ASK_100, sizeof ASK_100, ask));
     CHECK(sojimu_label("A") == UINT64_C(0x4100000000000000) && sojimu_label("Z9z") == UINT64_C(0x5A397A0000000000));
     CHECK(sojimu_label("A2345678") == UINT64_C(0x4132333435363738) && sojimu_label("A23456789") == 0);
     CHECK(sojimu_label("") == 0 && sojimu_label("ask") == 0 && sojimu_label("9A") == 0 && sojimu_label("A b") == 0);
@@ -392,7 +396,7 @@ static void encoder(void)
 int main(void)
 {
     p = table_of(P);
-    CHECK(sojimu_version() == 1 && SOJIMU_VERSION == 1 && sojimu_matches());
+    CHECK(sojimu_version() == 2 && SOJIMU_VERSION == 2 && sojimu_matches());
     bytes_determined();
     nothing();
     wide_numbers();

@@ -63,7 +63,7 @@ static size_t receive(struct conversation *talk, uint32_t side, const char *byte
 /* Nothing is due. Can it be once more bytes have come? */
 static bool may_go_on(const struct sojimu_table *protocol, const struct conversation *talk, uint32_t side)
 {
-    if (sojimu_turn(protocol, talk->state) == SOJIMU_NOBODY)
+    if (sojimu_turn(protocol, talk->state).question != 0)
         return false;
     if (sojimu_broken(talk->waiting[side], talk->length[side])) {
         printf("no message from %s\n", names[side]);

@@ -133,10 +133,7 @@ static void messages(void)
     NEEDS(sojimu_raw_front, SOJIMU_STACK_OTHER, AT(message), ROOM);
     NEEDS(sojimu_raw_broken, SOJIMU_STACK_OTHER, AT(message), ROOM);
     NEEDS(sojimu_raw_refusal, SOJIMU_STACK_OTHER, AT(message), made.length);
-    NEEDS(sojimu_raw_label_word, SOJIMU_STACK_OTHER, AT(message), ROOM);
     NEEDS(sojimu_raw_has_label, SOJIMU_STACK_OTHER, AT(message), ROOM, 0);
-    NEEDS(sojimu_raw_number, SOJIMU_STACK_OTHER, AT(message), ROOM, 13);
-    NEEDS(sojimu_raw_first_length, SOJIMU_STACK_OTHER, AT(message), ROOM);
     NEEDS(sojimu_label_legal, SOJIMU_STACK_OTHER, 0);
     NEEDS(sojimu_range_legal, SOJIMU_STACK_OTHER, 1, 0, 0);
     NEEDS(sojimu_fresh, SOJIMU_STACK_OTHER, 0);

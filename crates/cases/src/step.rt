@@ -1,6 +1,6 @@
 // The step over a lent state, and whether it goes as a line wants it. The file `monitor` says what the numbers are.
 ghost use mathlib.Core.Path.{_≡_};
-ghost use Rattle.monitor.specs.Step.{stepping, stepped};
+ghost use Rattle.monitor.specs.Step.{stepping, outcome};
 use monitor::Reason;
 use monitor::Standing;
 use monitor::State;
@@ -17,7 +17,7 @@ pub struct Outcome {
 
 // The call that the program is for: the state is lent to it.
 fn advanced(t: &Table, s: State, side: Party, message: &[u8], out: &mut [u8]) -> Stepped
-    ensures { λ r. ⌜ stepped r (now (out .exit)) ≡ stepping (now (t .entry)) s side (now (message .entry)) (now (out .entry)) ⌝ }
+    ensures { λ r. ⌜ outcome r (now (out .exit)) ≡ stepping (now (t .entry)) s side (now (message .entry)) (now (out .entry)) ⌝ }
 {
     let mut state = s;
     let verdict = monitor::advance(t, &mut state, side, message, out);

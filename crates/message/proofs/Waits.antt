@@ -11,6 +11,7 @@ use lib.ListN.{length, take, length-append}
 use lib.Seq.{getD-take, take-take, take-append-seam, length-take-le}
 use lib.Dec.{leb, eqb}
 use borrow.Author.Tests.{leb-true, leb-false, le-leb, lt-leb}
+use Rattle.table.specs.Lists.{first-no}
 use Rattle.table.specs.Table.{legal-label}
 use Rattle.table.proofs.Lists.{never, decided}
 use Rattle.message.specs.Message.{count-of, whole, legal-values, front, opens, broken}
@@ -20,7 +21,7 @@ use Rattle.message.proofs.Reading.{not-whole, whole-last, whole-opens, 
 
 module _ (bytes : List ℕ) where
   pub broken-short : length bytes < 9 → false ≡ broken bytes
-  unfolding broken front
+  unfolding broken front first-no
   broken-short l = simp (lt-leb 9 (length bytes) l, sym (not-whole bytes (λ w. absurd (omega (arith, w .nine)))))
 
   pub broken-closed : 9 ≤ length bytes → opens bytes ≡ false → true ≡ broken bytes
@@ -45,7 +46,7 @@ module _ (bytes : List ℕ) (n : ℕ) (m : n ≤ length bytes) (e : front bytes 
       ap₂ (λ a c. legal-label a && leb c 4) (take-take 8 n bytes (omega arith)) (cut-count l) ∙ whole-opens bytes (front-parts bytes e .0)
 
   fields-cut : 9 ≤ n → n < 9 + 5 * count-of bytes → front (take n bytes) ≡ 13
-  unfolding front
+  unfolding front first-no
   fields-cut l s =
       ap (λ w. cond w (cond (legal-values (take n bytes)) 0 14) 13)
       (sym (not-whole (take n bytes) (λ w. absurd (omega (arith, w .arrays, cut-count l, length-take-le n bytes m)))))
@@ -75,7 +76,7 @@ never-mended bytes more b e =
 
 -- of 29 bytes, which hold the arrays of any message, 13 asks nothing more than what opens one
 opened-front : (bytes : List ℕ) → 29 ≤ length bytes → opens bytes ≡ true → front bytes ≡ cond (legal-values bytes) 0 14
-unfolding front
+unfolding front first-no
 opened-front bytes l o =
     ap (λ w. cond w (cond (legal-values bytes) 0 14) 13)
     (sym (whole-last bytes (omega arith) o) ∙ le-leb (9 + 5 * count-of bytes) (length bytes) (omega (arith, opens-parts bytes o .1)))

@@ -2,13 +2,11 @@
 -- Assumes nothing.
 use mathlib.Core.Path.{_≡_, refl}
 use mathlib.Core.List.{List}
-use mathlib.Core.Option.{Option, none, some}
 use Prim.Native.Nat.{ℕ}
 use Rattle.table.specs.View.{Words}
-use Rattle.table.specs.declared.Party.{Party}
 use Rattle.table.specs.declared.Party.the-variants.{Device, Host}
 use Rattle.monitor.specs.declared.State.{State}
-use Rattle.monitor.specs.Due.{awaited, due-at, due}
+use Rattle.monitor.specs.Due.{Awaited, refused, of-side, awaited, due-at, due}
 use Rattle.sojimu.specs.Calls.{due-codes, waiting, part}
 use denote.Ref.{RefT, now}
 
@@ -16,7 +14,7 @@ pub due-part : (t : Words) (s : State) (device host : RefT (List ℕ)) → part 
 unfolding due due-at due-codes waiting part
 due-part t s device host = by (awaited t s)
   where
-    by : (turn : Option Party) → part (due-codes turn (now device) (now host)) device host ≡ due-at turn device host
-    by (some Device) = refl
-    by (some Host) = refl
-    by none = refl
+    by : (turn : Awaited) → part (due-codes turn (now device) (now host)) device host ≡ due-at turn device host
+    by (of-side Device) = refl
+    by (of-side Host) = refl
+    by (refused q) = refl

@@ -2,7 +2,7 @@
 -- Assumes nothing.
 use mathlib.Core.Path.{_≡_, refl, sym, ap, _∙_}
 use mathlib.Core.Logic.{⊎-elim}
-use mathlib.Core.Bool.{false}
+use mathlib.Core.Bool.{Bool, false}
 use mathlib.Core.List.{List, [], _∷_, _++_}
 use mathlib.Core.Option.{Option, none, some}
 use Prim.Native.Nat.{ℕ, zero, suc}
@@ -20,7 +20,7 @@ use Rattle.monitor.specs.declared.Verdict.the-variants.{Blamed}
 use Rattle.monitor.specs.declared.Stepped.{Stepped}
 use Rattle.monitor.specs.Step.{of-state, told, refusing, stepping, stepped}
 use Rattle.table.specs.Lists.{first-no}
-use Rattle.monitor.specs.Due.{awaited}
+use Rattle.monitor.specs.Due.{Awaited, refused, of-side, sending, awaited}
 use Rattle.monitor.proofs.Asking.{zero-or, not-its-turn, stops-there, goes-on, asked-first, asked-then, refused-step}
 use Rattle.sojimu.specs.declared.steps.Verdict.{Verdict}
 use Rattle.sojimu.specs.Codes.{sideOf, stateOf, stateBytes, verdictCodes}
@@ -32,12 +32,23 @@ no-side zero a b = absurd (a refl)
 no-side (suc zero) a b = absurd (b refl)
 no-side (suc (suc n)) a b = refl
 
+-- it is this side's turn
+unfoldable its-turn : Party → Awaited → Bool
+its-turn side (refused q) = false
+its-turn side (of-side p) = is-party side (some p)
+
 -- where no side speaks, it is not the turn of the one that stands in
-not-awaited : (turn : Option Party) → is-party (stand-in none turn) turn ≡ false
-unfolding stand-in is-party
-not-awaited (some Device) = refl
-not-awaited (some Host) = refl
-not-awaited none = refl
+not-awaited : (turn : Awaited) → its-turn (stand-in none turn) turn ≡ false
+unfolding stand-in is-party its-turn
+not-awaited (of-side Device) = refl
+not-awaited (of-side Host) = refl
+not-awaited (refused q) = refl
+
+its-sending : (side : Party) (o : Option Party) → is-party side o ≡ its-turn side (sending o)
+unfolding is-party its-turn sending
+its-sending Device none = refl
+its-sending Host none = refl
+its-sending side (some p) = refl
 
 -- 9, 10 and 11, then a no to 12
 abbrev out-of-turn : Words → State → ℕ
@@ -48,11 +59,11 @@ module _ (t : Words) (s : State) where
   unfolding first-no
   then-twelve = goes-on t s ((12, false) ∷ [])
 
-  module _ (side : Party) (message out : List ℕ) (h : is-party side (awaited t s) ≡ false) where
+  module _ (side : Party) (message out : List ℕ) (h : its-turn side (awaited t s) ≡ false) where
     -- the speaker at the position is not this side
     not-speaking : first-no (of-state t s) ≡ 0 → is-party side (speaker (sort (view t) (s .position))) ≡ false
     unfolding awaited
-    not-speaking e = ap (is-party side) (rw e) ∙ h
+    not-speaking e = its-sending side _ ∙ ap (its-turn side) (rw e) ∙ h
 
     out-of-turn-step : stepping t s side message out ≡ refusing (out-of-turn t s) s out
     out-of-turn-step = ⊎-elim no yes (zero-or (first-no (of-state t s)))

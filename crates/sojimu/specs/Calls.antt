@@ -12,7 +12,8 @@ use Rattle.table.specs.declared.Party.the-variants.{Device, Host}
 use Rattle.monitor.specs.declared.State as M
 use Rattle.monitor.specs.Step.{of-state, Told, refused, blamed, forwarded, Stepping, refusing, stepping}
 use Rattle.table.specs.Lists.{first-no}
-use Rattle.monitor.specs.Due.{Seen, cut, first-length}
+use Rattle.monitor.specs.Due.{Seen, cut, Awaited, of-side, first-length}
+use Rattle.monitor.specs.Due as D
 use Rattle.fit.specs.Answer.{Answer, Answered, Demand}
 use Rattle.sojimu.specs.declared.steps.Verdict.{Verdict}
 use Rattle.sojimu.specs.declared.steps.Due.{Due}
@@ -43,11 +44,11 @@ step-codes t bytes side message out =
 
 -- ---- the due part
 
--- the side whose turn it is, and the length of its first message; nothing of the device's where it is nobody's turn
-unfoldable pub due-codes : Option Party → List ℕ → List ℕ → Due
-due-codes (some Device) device host = record { side = 0; length = first-length device }
-due-codes (some Host) device host = record { side = 1; length = first-length host }
-due-codes none device host = record { side = 0; length = 0 }
+-- the side whose turn it is, and the length of its first message; nothing of the device's where 9, 10 or 11 refuses
+unfoldable pub due-codes : Awaited → List ℕ → List ℕ → Due
+due-codes (of-side Device) device host = record { side = 0; length = first-length device }
+due-codes (of-side Host) device host = record { side = 1; length = first-length host }
+due-codes (D.refused q) device host = record { side = 0; length = 0 }
 
 -- the part that they name: the first `length` of that side's bytes. It is the due part of document 01 (proofs/Due, due-part)
 unfoldable pub waiting : ℕ → RefT (List ℕ) → RefT (List ℕ) → RefT (List ℕ)

@@ -11,12 +11,14 @@ use Rattle.monitor.specs.declared.Standing.{Standing}
 use Rattle.monitor.specs.declared.Standing.the-variants.{Running, DeviceBlamed, HostBlamed}
 use Rattle.monitor.specs.declared.State as M
 use Rattle.monitor.specs.Step.{Told, refused, blamed, forwarded}
+use Rattle.monitor.specs.Due as D
 use Rattle.message.specs.declared.Head as H
 use Rattle.fit.specs.Answer as F
 use Rattle.sojimu.specs.declared.messages.Head.{Head}
 use Rattle.sojimu.specs.declared.messages.Made.{Made}
 use Rattle.sojimu.specs.declared.steps.State.{State}
 use Rattle.sojimu.specs.declared.steps.Verdict.{Verdict}
+use Rattle.sojimu.specs.declared.steps.Turn.{Turn}
 use Rattle.sojimu.specs.declared.fits.Fit.{Fit}
 
 -- ---- sides and turns
@@ -31,10 +33,10 @@ abbrev pub partyCode : Party → ℕ
 partyCode Device = 0
 partyCode Host = 1
 
--- whose turn it is: 2 is nobody's
-abbrev pub turnCode : Option Party → ℕ
-turnCode (some side) = partyCode side
-turnCode none = 2
+-- whose turn it is: the question that got a no, or 0, and the side
+abbrev pub turnCodes : D.Awaited → Turn
+turnCodes (D.refused q) = record { question = q; side = 0 }
+turnCodes (D.of-side side) = record { question = 0; side = partyCode side }
 
 -- ---- the state: a position, and a standing's code
 

@@ -6,15 +6,16 @@ use mathlib.Core.Option.{Option, none, some}
 use Prim.Native.Nat.{ℕ}
 use Rattle.table.specs.View.{Words}
 use Rattle.message.specs.Make.{making}
+use Rattle.monitor.specs.Due.{Awaited, refused, of-side}
 use Rattle.table.specs.declared.Party.{Party}
 use Rattle.table.specs.declared.Party.the-variants.{Device, Host}
 
 -- the side in whose name a step is taken: where no side speaks, one whose turn it is not
-unfoldable pub stand-in : Option Party → Option Party → Party
+unfoldable pub stand-in : Option Party → Awaited → Party
 stand-in (some side) turn = side
-stand-in none (some Device) = Host
-stand-in none (some Host) = Device
-stand-in none none = Device
+stand-in none (of-side Device) = Host
+stand-in none (of-side Host) = Device
+stand-in none (refused q) = Device
 
 -- the same message or refusal comes of both numbers of a branch, and of both fields that are named
 abbrev pub SameBranch : ℕ → ℕ → Type 0

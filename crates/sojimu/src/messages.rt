@@ -1,6 +1,6 @@
-// Messages: their questions, their parts where they stand, and the message made from a branch.
+// Messages: their questions, their label, and the message made from a branch.
 ghost use mathlib.Core.Path.{_≡_};
-ghost use Rattle.message.specs.Message.{number-at, label-word, has-label, frontOf, broken, refusal};
+ghost use Rattle.message.specs.Message.{has-label, frontOf, broken, refusal};
 ghost use Rattle.message.specs.Make.{highOf, told, making};
 ghost use Rattle.sojimu.specs.Codes.{headCodes, namedBy, madeCodes};
 ghost use Rattle.sojimu.specs.Inner.{SameBranch, SameField};
@@ -49,28 +49,12 @@ pub extern "C" fn sojimu_raw_refusal(bytes: &[u8]) -> u32
     message::refusal(bytes) as u32
 }
 
-// The label as a table has it.
-#[no_mangle]
-pub extern "C" fn sojimu_raw_label_word(bytes: &[u8]) -> u64
-    ensures { λ r. ⌜ r ≡ label-word (now (bytes .entry)) ⌝ }
-{
-    message::label_word(bytes)
-}
-
 // Whether the bytes begin with a table's label.
 #[no_mangle]
 pub extern "C" fn sojimu_raw_has_label(bytes: &[u8], label: u64) -> bool
     ensures { λ r. ⌜ r ≡ has-label (now (bytes .entry)) label ⌝ }
 {
     message::has_label(bytes, label)
-}
-
-// The number in offset form at a place.
-#[no_mangle]
-pub extern "C" fn sojimu_raw_number(bytes: &[u8], at: usize) -> u32
-    ensures { λ r. ⌜ r ≡ number-at (now (bytes .entry)) at ⌝ }
-{
-    message::number(bytes, at)
 }
 
 // The message of a branch, all low or one named field high.

@@ -3,13 +3,12 @@ ghost use mathlib.Core.Path.{_≡_};
 ghost use Rattle.monitor.specs.declared.Verdict.the-variants.{Blamed};
 ghost use Rattle.monitor.specs.Step.{fresh, told};
 ghost use Rattle.monitor.specs.Due.{awaited, turn, first-length};
-ghost use Rattle.sojimu.specs.Codes.{sideOf, partyCode, turnCode, standingCode, standingOf, stateOf, stateCodes, stateBytes, verdictCodes};
+ghost use Rattle.sojimu.specs.Codes.{sideOf, partyCode, turnCodes, standingCode, standingOf, stateOf, stateCodes, stateBytes, verdictCodes};
 ghost use Rattle.sojimu.specs.Calls.{bytes-after, step-codes, due-codes};
 ghost use Rattle.sojimu.specs.Inner.{stand-in};
 use monitor::Reason;
 use monitor::Standing;
 use monitor::Stepped;
-use monitor::Turn;
 use table::Party;
 use table::Table;
 
@@ -28,6 +27,13 @@ pub struct Verdict {
     pub party: u8,
     pub reason: u8,
     pub field: u8,
+}
+
+// Whose turn it is: the number of the question that got a no, or 0, and the side (0 device, 1 host).
+#[repr(C)]
+pub struct Turn {
+    pub question: u32,
+    pub side: u32,
 }
 
 // The side whose bytes the due part is cut from (0 device, 1 host), and how long it is.
@@ -81,9 +87,11 @@ fn speaker_of(table: &Table, s: monitor::State, side: u32) -> Party
     }
     let turn = monitor::whose_turn(table, s);
     match turn {
-        Turn::Device => Party::Host,
-        Turn::Host => Party::Device,
-        Turn::Nobody => Party::Device,
+        monitor::Turn::Refused(_) => Party::Device,
+        monitor::Turn::Of(awaited) => match awaited {
+            Party::Device => Party::Host,
+            Party::Host => Party::Device,
+        },
     }
 }
 
@@ -109,22 +117,14 @@ fn put(state: &mut [u8; 2], s: monitor::State)
     *state = [position, code];
 }
 
-// Whose turn it is: 0 device, 1 host, 2 nobody.
+// Whose turn it is. Asks 9, 10 and 11.
 #[no_mangle]
-pub extern "C" fn sojimu_turn(table: &Table, state: State) -> u8
-    ensures { λ r. ⌜ r ≡ turnCode (awaited (now (table .entry)) (stateOf (state .position) (state .standing))) ⌝ }
+pub extern "C" fn sojimu_turn(table: &Table, state: State) -> Turn
+    ensures { λ r. ⌜ r ≡ turnCodes (awaited (now (table .entry)) (stateOf (state .position) (state .standing))) ⌝ }
 {
     let s = state_of(state.position, state.standing);
     let turn = monitor::whose_turn(table, s);
-    turn_code(turn)
-}
-
-// How long the first message is.
-#[no_mangle]
-pub extern "C" fn sojimu_raw_first_length(bytes: &[u8]) -> usize
-    ensures { λ r. ⌜ r ≡ first-length (now (bytes .entry)) ⌝ }
-{
-    monitor::first_length(bytes)
+    turn_codes(turn)
 }
 
 // The due part, as a side and a length.
@@ -136,9 +136,11 @@ pub extern "C" fn sojimu_raw_due(table: &Table, state: State, device: &[u8], hos
     let s = state_of(state.position, state.standing);
     let turn = monitor::whose_turn(table, s);
     match turn {
-        Turn::Device => first_of(0, device),
-        Turn::Host => first_of(1, host),
-        Turn::Nobody => Due { side: 0, length: 0 },
+        monitor::Turn::Refused(_) => Due { side: 0, length: 0 },
+        monitor::Turn::Of(side) => match side {
+            Party::Device => first_of(0, device),
+            Party::Host => first_of(1, host),
+        },
     }
 }
 
@@ -193,13 +195,18 @@ fn party_code(party: Party) -> u8
     }
 }
 
-fn turn_code(t: Turn) -> u8
-    ensures { λ r. ⌜ r ≡ turnCode (turn t) ⌝ }
+fn turn_codes(t: monitor::Turn) -> Turn
+    ensures { λ r. ⌜ r ≡ turnCodes (turn t) ⌝ }
 {
     match t {
-        Turn::Device => 0,
-        Turn::Host => 1,
-        Turn::Nobody => 2,
+        monitor::Turn::Refused(question) => Turn {
+            question: question as u32,
+            side: 0,
+        },
+        monitor::Turn::Of(side) => Turn {
+            question: 0,
+            side: party_code(side) as u32,
+        },
     }
 }
 

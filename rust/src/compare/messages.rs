@@ -21,8 +21,6 @@ pub fn case(random: &mut Random, tally: &mut Tally) -> Outcome {
     let head = ffi::front(&bytes);
     let told = (proved::front(&bytes), (head.question, head.length));
     tally.same("front", told, (announced.map_err(Question), codes(announced)), show)?;
-    let whole = announced.ok().filter(|&length| length <= bytes.len());
-    tally.same("first_length", proved::first_length(&bytes), whole.unwrap_or(0), show)?;
     tally.broken += u64::from(proved::broken(&bytes));
     tally.same("broken", proved::broken(&bytes), broken(&bytes), show)?;
     let part = &bytes[..random.below(bytes.len().min(30) + 1)];
@@ -32,10 +30,5 @@ pub fn case(random: &mut Random, tally: &mut Tally) -> Outcome {
     let word = u64::from_be_bytes(label);
     tally.same("has_label", proved::has_label(&bytes, word), has_label(&label, &bytes), show)?;
     let first = bytes.first_chunk().map_or(0, |first| u64::from_be_bytes(*first));
-    tally.same("label_word", proved::label_word(&bytes), first, show)?;
-    tally.same("has_label", proved::has_label(&bytes, first), bytes.len() >= 8, show)?;
-    let at = if random.one_in(8) { random.number() as usize } else { random.below(bytes.len() + 2) };
-    let four = bytes.get(at..).and_then(|rest| rest.first_chunk());
-    let number = four.map_or(0, |four| (i64::from(i32::from_be_bytes(*four)) + (1 << 31)) as u32);
-    tally.same("number", proved::number(&bytes, at), number, show)
+    tally.same("has_label", proved::has_label(&bytes, first), bytes.len() >= 8, show)
 }

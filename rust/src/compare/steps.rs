@@ -1,11 +1,11 @@
 //! Single steps and due parts, from any state: every standing code, every position, and sides that are neither.
 
-use super::both::{party, state, state_after, verdict, verdict_codes, Both};
+use super::both::{codes, party, state, state_after, verdict, verdict_codes, Both};
 use super::{show, Outcome, Tally};
-use crate::proved::{ffi, Standing, State};
-use crate::second::monitor::{due, step, turn, Side};
+use crate::proved::{ffi, Question, Standing, State};
+use crate::second::monitor::{awaited, due, step, turn, Side};
 use crate::second::random::{damaged_message, damaged_table, message_for, sound_table, waiting, with_noise, Random, COLUMNS};
-use crate::second::table::{sound_at, Raw};
+use crate::second::table::Raw;
 
 /// A byte of the output before the call.
 pub const UNTOUCHED: u8 = 0xEE;
@@ -26,12 +26,9 @@ impl Given {
         heading + &show::bytes("message", message) + &show::table("table", &both.proved)
     }
 
-    /// Whose turn it is; nobody's when 9, 10 or 11 would refuse.
-    fn speaker(&self, both: &Both) -> Option<Side> {
-        let at = state(self.state);
-        let sort = *both.second.states.get(at.position)?;
-        let running = self.state.standing == Standing::RUNNING;
-        turn(sort).filter(|_| running && sound_at(&both.second, at.position))
+    /// Whose turn it is.
+    fn speaker(&self, both: &Both) -> Result<Side, u8> {
+        awaited(&both.second, &state(self.state))
     }
 }
 
@@ -92,7 +89,7 @@ pub fn nobodys_step(random: &mut Random, given: &Given, both: &Both, tally: &mut
     let Given { state: before, message, room, .. } = given;
     let code = *random.pick(&[2, 3, 255, 256, 257, 0x1_0000, 0x1_0001, 0x8000_0000, 0x8000_0001, u32::MAX]);
     // Whose turn it is not is told the same.
-    let other = if given.speaker(both) == Some(Side::Device) { Side::Host } else { Side::Device };
+    let other = if given.speaker(both) == Ok(Side::Device) { Side::Host } else { Side::Device };
     let second = step(&both.second, &mut state(*before), other, message, &mut vec![0; *room]);
     let (mut after, mut output) = (*before, vec![UNTOUCHED; *room]);
     let codes = ffi::step(&both.proved, &mut after, code, message, &mut output);
@@ -105,9 +102,9 @@ pub fn nobodys_step(random: &mut Random, given: &Given, both: &Both, tally: &mut
 pub fn due_of(given: &Given, both: &Both, device: &[u8], host: &[u8], tally: &mut Tally) -> Outcome {
     let show = || given.show(both) + &show::bytes("device's", device) + &show::bytes("host's", host);
     let speaker = given.speaker(both).map(party);
-    let code = ffi::sojimu_turn(&both.proved, given.state);
-    let wanted = (speaker, speaker.map_or(2, |side| side as u8));
-    tally.same("turn", (both.proved.turn(given.state), code), wanted, show)?;
+    let told = ffi::sojimu_turn(&both.proved, given.state);
+    let turn = (both.proved.turn(given.state), (told.question, told.side));
+    tally.same("turn", turn, (speaker.map_err(Question), codes(speaker.map(|side| side as usize))), show)?;
     let part = both.proved.due(given.state, device, host);
     let told = ffi::due(&both.proved, given.state, device, host);
     let wanted = due(&both.second, &state(given.state), device, host);

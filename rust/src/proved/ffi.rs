@@ -29,6 +29,13 @@ pub struct Head {
 
 #[repr(C)]
 #[derive(Clone, Copy, Debug, PartialEq, Eq)]
+pub struct Turn {
+    pub question: u32,
+    pub side: u32,
+}
+
+#[repr(C)]
+#[derive(Clone, Copy, Debug, PartialEq, Eq)]
 pub struct Verdict {
     pub outcome: u8,
     pub question: u8,
@@ -80,6 +87,7 @@ laid_out!(Told, 8, 4, question 0, at 4);
 laid_out!(Turned, 9364, 4, question 0, table 4);
 laid_out!(Head, 8, 4, question 0, length 4);
 laid_out!(State, 2, 1, position 0, standing 1);
+laid_out!(Turn, 8, 4, question 0, side 4);
 laid_out!(Verdict, 5, 1, outcome 0, question 1, party 2, reason 3, field 4);
 laid_out!(Due, 8, 4, side 0, length 4);
 laid_out!(Made, 8, 4, question 0, length 4);
@@ -96,7 +104,7 @@ unsafe extern "C" {
     pub safe fn sojimu_label_legal(label: u64) -> bool;
     pub safe fn sojimu_range_legal(kind: u32, low: u32, high: u32) -> bool;
     pub safe fn sojimu_fresh() -> State;
-    pub safe fn sojimu_turn(table: &Table, state: State) -> u8;
+    pub safe fn sojimu_turn(table: &Table, state: State) -> Turn;
     fn sojimu_raw_read(text: *const u8, length: usize, table: *mut Table) -> Told;
     fn sojimu_raw_report(
         protocol: *const u8,
@@ -109,10 +117,7 @@ unsafe extern "C" {
     fn sojimu_raw_front(bytes: *const u8, length: usize) -> Head;
     fn sojimu_raw_broken(bytes: *const u8, length: usize) -> bool;
     fn sojimu_raw_refusal(bytes: *const u8, length: usize) -> u32;
-    fn sojimu_raw_label_word(bytes: *const u8, length: usize) -> u64;
     fn sojimu_raw_has_label(bytes: *const u8, length: usize, label: u64) -> bool;
-    fn sojimu_raw_number(bytes: *const u8, length: usize, at: usize) -> u32;
-    fn sojimu_raw_first_length(bytes: *const u8, length: usize) -> usize;
     fn sojimu_raw_make(table: &Table, branch: u32, named: u32, out: *mut u8, room: usize) -> Made;
     fn sojimu_raw_step(
         table: &Table,
@@ -167,27 +172,9 @@ pub fn refusal(bytes: &[u8]) -> u32 {
 }
 
 #[inline]
-pub fn label_word(bytes: &[u8]) -> u64 {
-    // SAFETY: pointer and length are those of one slice, which is only read.
-    unsafe { sojimu_raw_label_word(bytes.as_ptr(), bytes.len()) }
-}
-
-#[inline]
 pub fn has_label(bytes: &[u8], label: u64) -> bool {
     // SAFETY: pointer and length are those of one slice, which is only read.
     unsafe { sojimu_raw_has_label(bytes.as_ptr(), bytes.len(), label) }
-}
-
-#[inline]
-pub fn number(bytes: &[u8], at: usize) -> u32 {
-    // SAFETY: pointer and length are those of one slice, which is only read.
-    unsafe { sojimu_raw_number(bytes.as_ptr(), bytes.len(), at) }
-}
-
-#[inline]
-pub fn first_length(bytes: &[u8]) -> usize {
-    // SAFETY: pointer and length are those of one slice, which is only read.
-    unsafe { sojimu_raw_first_length(bytes.as_ptr(), bytes.len()) }
 }
 
 #[inline]

@@ -57,19 +57,6 @@ pub fn refusal(bytes: &[u8]) -> Option<Question> {
     Question::of(ffi::refusal(bytes))
 }
 
-/// The first eight bytes as one number, high byte first, as [`Table::label`](super::Table::label) has it; 0 of fewer bytes.
-///
-/// ```
-/// use sojimu::message::label_word;
-///
-/// assert_eq!(label_word(b"\0\0\0\0\0\0\x01\x02 and more"), 0x102);
-/// assert_eq!(label_word(b"Ask"), 0);
-/// ```
-#[inline]
-pub fn label_word(bytes: &[u8]) -> u64 {
-    ffi::label_word(bytes)
-}
-
 /// Do the bytes begin with this label?
 ///
 /// ```
@@ -82,32 +69,6 @@ pub fn label_word(bytes: &[u8]) -> u64 {
 #[inline]
 pub fn has_label(bytes: &[u8], label: u64) -> bool {
     ffi::has_label(bytes, label)
-}
-
-/// The number whose four bytes stand at a place, plus 2^31; 0 where they do not all stand there.
-///
-/// ```
-/// use sojimu::message::number;
-///
-/// assert_eq!(number(b"\xFF\xFF\xFF\xFF\x07", 0), 0x7FFF_FFFF);
-/// assert_eq!(number(b"\xFF\xFF\xFF\xFF\x07", 2), 0);
-/// ```
-#[inline]
-pub fn number(bytes: &[u8], at: usize) -> u32 {
-    ffi::number(bytes, at)
-}
-
-/// How long the first message of the bytes is; 0 when 13 or 14 would refuse it or it is not all there.
-///
-/// ```
-/// use sojimu::message::first_length;
-///
-/// assert_eq!(first_length(b"Ok\0\0\0\0\0\0\0Ok"), 9);
-/// assert_eq!(first_length(b"Ok\0\0\0\0\0\0"), 0);
-/// ```
-#[inline]
-pub fn first_length(bytes: &[u8]) -> usize {
-    ffi::first_length(bytes)
 }
 
 /// Is a label legal: A-Z, then A-Z, a-z, 0-9, filled up with 0x00?

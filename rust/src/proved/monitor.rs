@@ -13,12 +13,13 @@ pub enum Party {
 }
 
 impl Party {
+    /// The party of an answer's code, 0 or 1.
     #[inline]
-    fn of(code: u32) -> Option<Party> {
-        match code {
-            0 => Some(Party::Device),
-            1 => Some(Party::Host),
-            _ => None,
+    fn of(code: u32) -> Party {
+        if code == 0 {
+            Party::Device
+        } else {
+            Party::Host
         }
     }
 }
@@ -114,7 +115,7 @@ impl Verdict {
             0 => Verdict::Forwarded,
             1 => Verdict::Refused(Question(verdict.question)),
             _ => Verdict::Blamed(
-                if verdict.party == 0 { Party::Device } else { Party::Host },
+                Party::of(verdict.party.into()),
                 match verdict.reason {
                     1 => Reason::NoLabel,
                     2 => Reason::OtherKinds,
@@ -128,7 +129,7 @@ impl Verdict {
 /// The due message: a part of the bytes that wait on one side.
 #[derive(Clone, Copy, Debug, PartialEq, Eq, Hash)]
 pub struct Due<'a> {
-    /// The side whose turn it is; the device where it is nobody's.
+    /// The side whose turn it is; the device where 9, 10 or 11 would refuse.
     pub side: Party,
     /// The first message of that side's bytes, cut at their start. It is empty when none is due.
     pub message: &'a [u8],
@@ -158,20 +159,24 @@ impl Table {
         Verdict::of(ffi::step(self, state, side as u32, message, out))
     }
 
-    /// Whose turn it is; nobody's when 9, 10 or 11 would refuse.
+    /// Whose turn it is. Asks 9, 10 and 11.
     ///
     /// ```
-    /// use sojimu::{Party, State, Table};
+    /// use sojimu::{Party, Question, State, Table};
     ///
     /// let protocol = Table::read(b"&{?Start().end}")?;
-    /// assert_eq!(protocol.turn(State::fresh()), Some(Party::Host));
+    /// assert_eq!(protocol.turn(State::fresh()), Ok(Party::Host));
     /// let ended = State { position: 1, ..State::fresh() };
-    /// assert_eq!(protocol.turn(ended), None);
+    /// assert_eq!(protocol.turn(ended), Err(Question(11)));
     /// # Ok::<(), sojimu::Refusal>(())
     /// ```
     #[inline]
-    pub fn turn(&self, state: State) -> Option<Party> {
-        Party::of(ffi::sojimu_turn(self, state).into())
+    pub fn turn(&self, state: State) -> Result<Party, Question> {
+        let turn = ffi::sojimu_turn(self, state);
+        match Question::of(turn.question) {
+            None => Ok(Party::of(turn.side)),
+            Some(question) => Err(question),
+        }
     }
 
     /// The due message of the bytes that wait on either side: the first of the side whose turn it is. It is empty, at that side's
@@ -191,8 +196,8 @@ impl Table {
         let due = ffi::due(self, state, device, host);
         let length = due.length as usize;
         match Party::of(due.side) {
-            Some(Party::Host) => Due { side: Party::Host, message: &host[..length] },
-            _ => Due { side: Party::Device, message: &device[..length] },
+            Party::Device => Due { side: Party::Device, message: &device[..length] },
+            Party::Host => Due { side: Party::Host, message: &host[..length] },
         }
     }
 }

@@ -63,19 +63,23 @@ pub fn turn(sort: Sort) -> Option<Side> {
     }
 }
 
-/// One step: a message of a side is refused, blamed or forwarded.
-pub fn step(table: &Table, state: &mut State, side: Side, message: &[u8], output: &mut [u8]) -> Verdict {
+/// Whose turn it is in a conversation: 9, 10 and 11.
+pub fn awaited(table: &Table, state: &State) -> Result<Side, u8> {
     if !sound_at(table, state.position) {
-        return Verdict::Refused(9);
+        return Err(9);
     }
     if state.standing != Standing::Running {
-        return Verdict::Refused(10);
+        return Err(10);
     }
-    if table.states[state.position] == Sort::End {
-        return Verdict::Refused(11);
-    }
-    if turn(table.states[state.position]) != Some(side) {
-        return Verdict::Refused(12);
+    turn(table.states[state.position]).ok_or(11)
+}
+
+/// One step: a message of a side is refused, blamed or forwarded.
+pub fn step(table: &Table, state: &mut State, side: Side, message: &[u8], output: &mut [u8]) -> Verdict {
+    match awaited(table, state) {
+        Err(question) => return Verdict::Refused(question),
+        Ok(speaker) if speaker != side => return Verdict::Refused(12),
+        Ok(_) => {}
     }
     let parsed = match read(message) {
         Ok(parsed) => parsed,
@@ -123,12 +127,8 @@ pub struct Part {
 
 /// The due message: "the first message of the side whose turn it is", from the bytes waiting on either side.
 pub fn due(table: &Table, state: &State, device: &[u8], host: &[u8]) -> Part {
-    let nothing = Part { side: Side::Device, length: 0 };
-    if !sound_at(table, state.position) || state.standing != Standing::Running {
-        return nothing;
-    }
-    let Some(side) = turn(table.states[state.position]) else {
-        return nothing;
+    let Ok(side) = awaited(table, state) else {
+        return Part { side: Side::Device, length: 0 };
     };
     let waiting = match side {
         Side::Device => device,

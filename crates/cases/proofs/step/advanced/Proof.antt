@@ -7,7 +7,7 @@ use Prim.Native.Nat.{ℕ}
 use lib.ListN.{length}
 use mir.Syntax.{named}
 use mir.Val.{Val, vptr}
-use Rattle.monitor.specs.Step.{stepping, stepped}
+use Rattle.monitor.specs.Step.{stepping, outcome}
 use Rattle.monitor.specs.declared.State.{State}
 use Rattle.table.specs.declared.Party.{Party}
 use Rattle.monitor.specs.declared.Verdict.{Verdict}
@@ -52,8 +52,8 @@ use denote.Struct.Laws as LL
 use denote.Enum.Laws as EL
 use Rattle.monitor.proofs.State as S
 use Rattle.monitor.proofs.State.Laws as S′
-use Rattle.monitor.proofs.Party as P
-use Rattle.monitor.proofs.Party.Laws as P′
+use Rattle.table.proofs.Party as P
+use Rattle.table.proofs.Party.Laws as P′
 use Rattle.monitor.proofs.Verdict as J
 use Rattle.monitor.proofs.Verdict.Laws as J′
 use Rattle.monitor.proofs.Stepped as R
@@ -166,7 +166,7 @@ module _ {M : Type 1} (𝓤 : URA M) (H : Heap 𝓤) (A : Atoms 𝓤) (W : Given
 
   -- what `advance` ensures of its verdict, the last state and the last list of out
   abbrev Does : Stepped → List ℕ → Type 0
-  Does r zs = stepped r zs ≡ stepping (t .now) h sd (x .now) (y .now)
+  Does r zs = outcome r zs ≡ stepping (t .now) h sd (x .now) (y .now)
 
   -- what is had at exit
   abbrev Had : List ℕ → List (Item 𝓤)

@@ -1,0 +1,2 @@
+-- The claims on one page.
+pub mod Demands

@@ -1,0 +1,46 @@
+-- A device that fits is never blamed, over whole conversations of the monitor's steps: any messages, from any side, with any room.
+-- Assumes nothing.
+use mathlib.Core.Path.{_≡_}
+use mathlib.Core.Bool.{true}
+use mathlib.Core.List.{List, _∷_, _++_, map}
+use mathlib.Core.Option.{Option, some}
+use Prim.Native.Nat.{ℕ}
+use Rattle.table.specs.View.{Words, view, soundOf}
+use Rattle.table.specs.declared.Party.the-variants.{Device}
+use Rattle.message.specs.Rules.{Rules, table-rules, next, led}
+use Rattle.monitor.specs.Step.{fresh, told, blamed}
+use Rattle.monitor.specs.Conversation.{Sent, Event, conversation, said-by, forwarded-ones, blamed-first, Judgeable, Answer, Kept}
+use Rattle.fit.specs.Machine.{Safe}
+
+module _ {D : Type 0} (d : Rules D) (p : Words) where
+  -- The device keeps to its description: each time it is its turn, what it sends well formed and with room is a message that the
+  -- description has there. The description's place is followed over the forwarded messages
+  abbrev pub Keeps : List Sent → Type 0
+  Keeps sent =
+      (earlier : List Event) (e : Event) (later : List Event) → conversation p sent ≡ earlier ++ (e ∷ later)
+      → e .sent .side ≡ Device → Judgeable (table-rules (view p)) earlier (e .met .position) (e .sent)
+      → (x : D) → led d (forwarded-ones earlier) ≡ some x → (y : D) × (next d x (said-by (e .sent)) ≡ some y)
+
+  pub record Unblamed (sent : List Sent) : Type 0 where
+    -- the device is never blamed
+    pub never : blamed-first (conversation p sent) ≡ some Device → ⊥
+    -- each forwarded message, the host's too, is one that the description has or takes there: so they lead somewhere in it
+    pub followed : (x : D) × (led d (forwarded-ones (conversation p sent)) ≡ some x)
+
+-- no answer blames the device
+abbrev pub NeverAnswered : List Answer → Type 0
+NeverAnswered answers =
+    (earlier : List Answer) (a : Answer) (later : List Answer) → answers ≡ earlier ++ (a ∷ later)
+    → (r : ℕ) (f : Option ℕ) → told (a .given .verdict) ≡ blamed Device r f → ⊥
+
+-- where no list of moves on the machine ends badly
+abbrev pub FitsUnblamed : Type 1
+FitsUnblamed =
+    (D : Type 0) (d : Rules D) (p : Words) → soundOf p ≡ true → Safe d (table-rules (view p))
+    → (sent : List Sent) → Keeps d p sent → Unblamed d p sent
+
+-- and so of every list of answers that keep the promise of `step` or of `advance`
+abbrev pub FitsUnanswered : Type 1
+FitsUnanswered =
+    (D : Type 0) (d : Rules D) (p : Words) → soundOf p ≡ true → Safe d (table-rules (view p))
+    → (answers : List Answer) → Kept p fresh answers → Keeps d p (map (λ (a : Answer). a .sent) answers) → NeverAnswered answers
