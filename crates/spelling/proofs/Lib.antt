@@ -9,4 +9,5 @@ pub mod Names
 pub mod Exact
 pub mod Examples
 pub mod Alike
+pub mod Split
 pub mod Refused

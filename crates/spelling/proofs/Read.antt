@@ -1,21 +1,17 @@
 -- A text is read exactly when it spells a legal type. (Document 01, "Protocol text".)
 -- Assumes nothing.
 use mathlib.Core.Path.{sym, ap, _∙_}
-use mathlib.Core.Logic.{_↔_}
-use mathlib.Core.List.{List, [], _∷_}
-use Prim.Native.Nat.{ℕ, _≤_}
+use mathlib.Core.List.{[], _∷_}
 use native.Mathlib.Omega.{arith}
-use lib.ListN.{length}
 use Rattle.table.proofs.Lists.{never}
 use Rattle.text.specs.Token.{oneOf}
-use Rattle.text.specs.Grammar.{text-limit, Ty, Tok, sign, printText, Writes}
+use Rattle.text.specs.Grammar.{Ty, Tok, sign, printText}
 use Rattle.text.proofs.Toks.{tag, sign-in}
+use Rattle.text.proofs.Unique.{print-once}
 use Rattle.text.proofs.Exactly.{read-exactly, read-seen}
-use Rattle.spelling.specs.Spelling.{Spelt}
-use Rattle.spelling.specs.Theorems.{WellFormed, SpeltOnce, ReadExactly, ReadSeen}
+use Rattle.spelling.specs.Theorems.{WellFormed, SpeltOnce, WritesSpelt, TypeOnce, ReadExactly, ReadSeen}
 use Rattle.spelling.proofs.Scan.{spelt-scanned}
 use Rattle.spelling.proofs.Prints.{fixed, print-holds, of-all}
-use Rattle.table.specs.Table as T
 
 -- no token that a type is written with is malformed
 pub text-formed : (t : Ty) → WellFormed (printText t)
@@ -31,11 +27,15 @@ pub spelt-once : SpeltOnce
 spelt-once s ts us a b = sym (spelt-scanned s ts .0 a .0) ∙ spelt-scanned s us .0 b .0
 
 -- The scanner finds a type's tokens in a text exactly when the text spells them.
-pub writes-spelt : (s : List ℕ) (t : Ty) → Writes s t ↔ ((length s ≤ text-limit) × Spelt s (printText t))
+pub writes-spelt : WritesSpelt
 writes-spelt s t = (
   (λ w. (w .short, spelt-scanned s (printText t) .1 (w .written, text-formed t))),
   (λ h. record { short = h .0; written = spelt-scanned s (printText t) .0 (h .1) .0 }),
 )
+
+-- What a type is written with tells the type.
+pub type-once : TypeOnce
+type-once s t u a b = print-once t u (sign 0 ∷ []) (sign 0 ∷ []) (spelt-once s (printText t) (printText u) a b) .0
 
 -- Reading gives r without a no, exactly when the text is at most 8,192 bytes long and spells a legal type, and r is the type's table.
 pub read-spelt : ReadExactly
@@ -44,7 +44,7 @@ read-spelt s r = (
   (λ h. read-exactly s r .1 (h .0, writes-spelt s (h .0) .1 (h .1, h .2), h .3, h .4)),
 )
 
--- The same of what is seen of the columns.
+-- The same of what is seen of the words.
 pub read-seen-spelt : ReadSeen
 read-seen-spelt s T = (
   (λ h. let a = read-seen s T .0 h in let b = writes-spelt s (a .0) .0 (a .1) in (a .0, b .0, b .1, a .2, a .3)),

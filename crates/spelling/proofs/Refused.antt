@@ -1,7 +1,7 @@
 -- What a refusal means, said of the tokens that stand in the text: by 2 to 8, since reading goes the same way over the same tokens wherever
 -- they stand; by 3, from the grammar, with a text written by the speller.
 -- Assumes nothing.
-use mathlib.Core.Path.{_≡_, refl, sym, subst, ap, _∙_}
+use mathlib.Core.Path.{_≡_, refl, sym, subst, ap, ap₂, _∙_}
 use mathlib.Core.Bool.{cond, Bool, true, false}
 use mathlib.Core.List.{List, [], _∷_, _++_, map}
 use Prim.Native.Nat.{ℕ}
@@ -33,6 +33,7 @@ use Rattle.spelling.proofs.Places.{upto-bad, placed-scanned, read-place
 use Rattle.spelling.proofs.Spell.{spell-spelt}
 use Rattle.spelling.proofs.Exact.{spells-writable, Written, print-written}
 use Rattle.spelling.proofs.Alike.{Stop, stop}
+use Rattle.spelling.proofs.Split.{at-once}
 
 -- ---- by 2 to 8
 
@@ -44,25 +45,31 @@ run-read u h = go (leb (length u) 8192) h
     go true h = h
     go false h = absurd (omega arith)
 
+-- the same tokens, however they are split
+here-same : (s : List ℕ) (p : ℕ) (a b : At s p) (ts : List Tok) → upto-here a ts ≡ upto-here b ts
+here-same s p a b ts = let h = at-once s p a b in ap₂ (λ ks k. map (tokOf s) ks ++ (tokOf s k ∷ ts)) (h .0) (h .1)
+
+before-same : (s : List ℕ) (p : ℕ) (a b : At s p) (ts : List Tok) → upto-before a ts ≡ upto-before b ts
+before-same s p a b ts = ap (λ ks. map (tokOf s) ks ++ ts) (at-once s p a b .0)
+
 pub refused-means : RefusedMeans
 unfolding refused denied
 refused-means s q p l h = let r = read-placed s (refused q p) .0 h in go (r .0) (r .1) (leb (length s) 8192) (r .2)
   where
     go : (ks : List Token) → Placed s 0 ks → (b : Bool) → written (cond b (run s start ks) (denied 1 0)) ≡ refused q p
-        → (a : At s p) × ((u : List ℕ) (ts : List Tok) → Spelt u (upto-here a ts) → reads u .question ≡ 0 → ⊥)
+        → At s p × ((a : At s p) (u : List ℕ) (ts : List Tok) → Spelt u (upto-here a ts) → reads u .question ≡ 0 → ⊥)
     go ks pl false e = let z : _≡_ {A = ℕ} 1 q = ap (λ (r : Reading). r .question) e in absurd (omega arith)
     go ks pl true e =
         let z : run s start ks .question ≡ q = ap (λ (r : Reading). r .question) e in
-        let f : Stop s start ks (run s start ks .at) = stop s ks start (λ n. omega arith) in (
-          record {
-            before = f .before;
-            here = f .here;
-            rest = f .rest;
-            split = subst (Placed s 0) (f .split) pl;
-            place = f .place ∙ ap (λ (r : Reading). r .at) e;
-          },
-          (λ u ts sp read. f .none u (tokens u) ts (spelt-scanned u _ .0 sp .0) (run-read u read)),
-        )
+        let f : Stop s start ks (run s start ks .at) = stop s ks start (λ n. omega arith) in
+        let b : At s p = record {
+          before = f .before;
+          here = f .here;
+          rest = f .rest;
+          split = subst (Placed s 0) (f .split) pl;
+          place = f .place ∙ ap (λ (r : Reading). r .at) e;
+        } in
+        (b, (λ a u ts sp read. f .none u (tokens u) ts (spelt-scanned u _ .0 sp .0 ∙ here-same s p a b ts) (run-read u read)))
 
 -- ---- by 3
 
@@ -114,11 +121,10 @@ text-made s p a t us m e =
 
 pub three-means : ThreeMeans
 unfolding upto-bad
-three-means s p h = go (three s p h)
+three-means s p h a = go (three s p h)
   where
     go : Forbidden s p
-        → (a : At s p)
-        × ((t : Ty) (ts : List Tok) → printText t ≡ upto-here a ts → ⊥)
+        → ((t : Ty) (ts : List Tok) → printText t ≡ upto-here a ts → ⊥)
         × ((u : List ℕ) × (t : Ty) × (ts : List Tok) × Spelt u (printText t) × (printText t ≡ upto-before a ts))
     go f = decide (eqb (f .here .kind) 1) refl
       where
@@ -128,22 +134,20 @@ three-means s p h = go (three s p h)
         found : Placed s 0 (f .before ++ cond (eqb (f .here .kind) 1) (token 1 (f .here .start) (f .here .start) ∷ []) (f .here ∷ upto-bad (f .rest)))
         found = placed-scanned s _ .1 (ap upto-bad (f .split) ∙ upto-front s (f .before) (f .here ∷ f .rest) formed)
 
-        at : (k : Token) (ks : List Token) → Placed s 0 (f .before ++ (k ∷ ks)) → k .start ≡ p → At s p
-        at k ks pl e = record { before = f .before; here = k; rest = ks; split = pl; place = e }
+        -- from a token that is the same as the grammar sees it
+        told : (k : Token) (ks : List Token) → Placed s 0 (f .before ++ (k ∷ ks)) → k .start ≡ p → tokOf s k ≡ tokOf s (f .here)
+            → ((t : Ty) (ts : List Tok) → printText t ≡ upto-here a ts → ⊥)
+            × ((u : List ℕ) × (t : Ty) × (ts : List Tok) × Spelt u (printText t) × (printText t ≡ upto-before a ts))
+        told k ks pl e same =
+            let b : At s p = record { before = f .before; here = k; rest = ks; split = pl; place = e } in (
+              (λ t ts q. f .none t ts (q ∙ here-same s p a b ts ∙ ap (λ (x : Tok). map (tokOf s) (f .before) ++ (x ∷ ts)) same)),
+              text-made s p a (f .some .0) (f .some .1) (f .made-up) (f .some .2 ∙ before-same s p b a (f .some .1)),
+            )
 
         decide : (b : Bool) → eqb (f .here .kind) 1 ≡ b
-            → (a : At s p)
-            × ((t : Ty) (ts : List Tok) → printText t ≡ upto-here a ts → ⊥)
+            → ((t : Ty) (ts : List Tok) → printText t ≡ upto-here a ts → ⊥)
             × ((u : List ℕ) × (t : Ty) × (ts : List Tok) × Spelt u (printText t) × (printText t ≡ upto-before a ts))
         decide true e =
-            let k = token 1 (f .here .start) (f .here .start) in
-            let a = at k [] (rw e at found) (f .place) in (
-              a,
-              (λ t us q.
-                  f .none t us
-                  (q ∙ ap (λ (x : Tok). map (tokOf s) (f .before) ++ (x ∷ us)) (bad-sign s k refl ∙ sym (bad-sign s (f .here) (eqb-true (f .here .kind) 1 e))))),
-              text-made s p a (f .some .0) (f .some .1) (f .made-up) (f .some .2),
-            )
-        decide false e =
-            let a = at (f .here) (upto-bad (f .rest)) (rw e at found) (f .place) in
-            (a, f .none, text-made s p a (f .some .0) (f .some .1) (f .made-up) (f .some .2))
+            told (token 1 (f .here .start) (f .here .start)) [] (rw e at found) (f .place)
+            (bad-sign s (token 1 (f .here .start) (f .here .start)) refl ∙ sym (bad-sign s (f .here) (eqb-true (f .here .kind) 1 e)))
+        decide false e = told (f .here) (upto-bad (f .rest)) (rw e at found) (f .place) refl

@@ -10,7 +10,7 @@ use Rattle.text.specs.declared.token.Token.{Token}
 use Rattle.spelling.specs.Spelling.{Spelt}
 use Rattle.spelling.specs.Places.{Placed}
 
--- the token at p: what stands in the text is those before it, it itself and the rest
+-- the token whose place is p, of those that stand in the text: those before it, it itself and the rest
 pub record At (s : List ℕ) (p : ℕ) : Type 0 where
   pub before : List Token
   pub here : Token
@@ -25,16 +25,16 @@ upto-before {s} a ts = map (tokOf s) (a .before) ++ ts
 abbrev pub upto-here : {s : List ℕ} {p : ℕ} → At s p → List Tok → List Tok
 upto-here {s} a ts = upto-before a (tokOf s (a .here) ∷ ts)
 
--- A refusal by 2 to 8: no text that is read begins with the tokens up to and with the one refused.
+-- A refusal by 2 to 8: there is a token at the place, and no text that is read begins with the tokens up to and with it.
 abbrev pub RefusedMeans : Type 0
 RefusedMeans =
     (s : List ℕ) (q p : ℕ) → 2 ≤ q → reads s ≡ refused q p
-    → (a : At s p) × ((u : List ℕ) (ts : List Tok) → Spelt u (upto-here a ts) → reads u .question ≡ 0 → ⊥)
+    → At s p × ((a : At s p) (u : List ℕ) (ts : List Tok) → Spelt u (upto-here a ts) → reads u .question ≡ 0 → ⊥)
 
--- A refusal by 3, besides: no type's text, legal or not, begins with them, and one begins with the tokens before.
+-- By 3, besides: no type's tokens, the type legal or not, begin with them; and there is a text of a type whose tokens begin with those
+-- before.
 abbrev pub ThreeMeans : Type 0
 ThreeMeans =
-    (s : List ℕ) (p : ℕ) → reads s ≡ refused 3 p
-    → (a : At s p)
-    × ((t : Ty) (ts : List Tok) → printText t ≡ upto-here a ts → ⊥)
+    (s : List ℕ) (p : ℕ) → reads s ≡ refused 3 p → (a : At s p)
+    → ((t : Ty) (ts : List Tok) → printText t ≡ upto-here a ts → ⊥)
     × ((u : List ℕ) × (t : Ty) × (ts : List Tok) × Spelt u (printText t) × (printText t ≡ upto-before a ts))

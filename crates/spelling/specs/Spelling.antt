@@ -4,17 +4,17 @@
 use mathlib.Core.Path.{_≡_}
 use mathlib.Core.Bool.{Bool, true, false, _&&_, _||_}
 use mathlib.Core.Logic.{_⊎_}
-use mathlib.Core.List.{List, [], _∷_, _++_}
+use mathlib.Core.List.{List, [], _∷_, _++_, map}
 use Prim.Native.Nat.{ℕ, _≤_}
 use Prim.Native.String.{String}
 use lib.Dec.{leb, eqb}
 use lib.ListN.{length}
+use Rattle.table.specs.Ascii.{ascii}
 use Rattle.table.specs.Lists.{every}
 use Rattle.table.specs.Table.{upper, letter-or-digit}
 use Rattle.text.specs.Token.{wordOf}
 use Rattle.text.specs.Number.{valueOf}
 use Rattle.text.specs.Grammar.{Tok, word, number, sign}
-use Rattle.table.specs.Ascii.{ascii}
 use Rattle.text.specs.Kind as K
 
 -- ---- bytes: `upper` is A-Z, `letter-or-digit` A-Z, a-z, 0-9
@@ -32,17 +32,18 @@ blank b = eqb b 0x20 || eqb b 0x0A
 
 -- ---- tokens
 
+-- a sign or a word, with its kind
+abbrev own : String → ℕ × String
+own x = (K.of x, x)
+
 abbrev pub signs : List (ℕ × String)
-signs =
-    (K.of "+", "+") ∷ (K.of "&", "&") ∷ (K.of "{", "{") ∷ (K.of "}", "}") ∷ (K.of ",", ",") ∷ (K.of "!", "!") ∷ (K.of "?", "?")
-    ∷ (K.of "(", "(") ∷ (K.of ")", ")") ∷ (K.of "[", "[") ∷ (K.of "]", "]")
-    ∷ []
+signs = map own ("+" ∷ "&" ∷ "{" ∷ "}" ∷ "," ∷ "!" ∷ "?" ∷ "(" ∷ ")" ∷ "[" ∷ "]" ∷ [])
 
 abbrev pub dots : List (ℕ × String)
-dots = (K.of ".", ".") ∷ (K.dots, "..") ∷ []
+dots = own "." ∷ (K.dots, "..") ∷ []
 
 abbrev pub words : List (ℕ × String)
-words = (K.of "end", "end") ∷ (K.of "rec", "rec") ∷ (K.of "int", "int") ∷ (K.of "text", "text") ∷ (K.of "flag", "flag") ∷ []
+words = map own ("end" ∷ "rec" ∷ "int" ∷ "text" ∷ "flag" ∷ [])
 
 -- w is what stands beside k in a list
 abbrev pub Listed : List (ℕ × String) → ℕ → List ℕ → Type 0
@@ -80,4 +81,5 @@ Ends more (b ∷ s) = more b ≡ false
 pub data Spelt : List ℕ → List Tok → Type 0 where
   ran-out : Spelt [] (sign K.ran-out ∷ [])
   a-blank : {b : ℕ} {s : List ℕ} {ts : List Tok} → blank b ≡ true → Spelt s ts → Spelt (b ∷ s) ts
-  a-token : {t : Tok} {w s : List ℕ} {more : ℕ → Bool} {ts : List Tok} → Spells t w more → Ends more s → Spelt s ts → Spelt (w ++ s) (t ∷ ts)
+  a-token : {t : Tok} {w s : List ℕ} {more : ℕ → Bool} {ts : List Tok}
+      → Spells t w more → Ends more s → Spelt s ts → Spelt (w ++ s) (t ∷ ts)

@@ -1,4 +1,4 @@
--- The theorems on texts, each as a type that proofs/ has a value of. A scanner's words stand in the first of them only.
+-- The theorems on texts, each as a type that proofs/ has a value of. The scanner is named in SpeltScanned and WritesSpelt only.
 -- Assumes nothing.
 use mathlib.Core.Path.{_≡_}
 use mathlib.Core.Bool.{cond}
@@ -10,7 +10,7 @@ use lib.ListN.{length}
 use Rattle.table.specs.View.{labelOf, view}
 use Rattle.text.specs.Token.{tokens, wordOf}
 use Rattle.text.specs.Number.{valueOf}
-use Rattle.text.specs.Grammar.{text-limit, Ty, Tok, sign, printText, tokOf, tableOf, Legal}
+use Rattle.text.specs.Grammar.{text-limit, Ty, Tok, sign, printText, tokOf, Writes, tableOf, Legal}
 use Rattle.text.specs.Building.{denied}
 use Rattle.text.specs.Filled.{Reading, came-out, filled, padded, written}
 use Rattle.text.specs.Reading.{start, run, reads}
@@ -35,6 +35,14 @@ SpeltScanned = (s : List ℕ) (ts : List Tok) → Spelt s ts ↔ ((map (tokOf s)
 -- A text spells at most one list of tokens.
 abbrev pub SpeltOnce : Type 0
 SpeltOnce = (s : List ℕ) (ts us : List Tok) → Spelt s ts → Spelt s us → ts ≡ us
+
+-- The scanner finds a type's tokens in a text that is not too long exactly when the text spells them.
+abbrev pub WritesSpelt : Type 0
+WritesSpelt = (s : List ℕ) (t : Ty) → Writes s t ↔ ((length s ≤ text-limit) × Spelt s (printText t))
+
+-- A text spells at most one type.
+abbrev pub TypeOnce : Type 0
+TypeOnce = (s : List ℕ) (t u : Ty) → Spelt s (printText t) → Spelt s (printText u) → t ≡ u
 
 -- ---- reading
 
