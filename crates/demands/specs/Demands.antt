@@ -11,7 +11,7 @@ use Rattle.text.specs.Grammar.{text-limit, Ty, printText, Legal}
 use Rattle.text.specs.Reading.{reads}
 use Rattle.spelling.specs.Spelling.{Spelt}
 use Rattle.types.specs.Types.{type-rules}
-use Rattle.monitor.specs.Conversation.{Sent, Demand}
+use Rattle.monitor.specs.Conversation.{Sent, Watched}
 use Rattle.fit.specs.Machine.{Safe, Unsafe}
 use Rattle.together.specs.Unblamed.{Keeps, Unblamed}
 use Rattle.summary.specs.Report.{fit, no-fit, Reported}
@@ -31,7 +31,7 @@ OneType = (s : List ℕ) (t u : Ty) → TextOf s t → TextOf s u → t ≡ u
 
 -- demand 2: in every conversation each message is met in its place, by the rules of the type
 abbrev pub DemandTwoOfTexts : Type 0
-DemandTwoOfTexts = (s : List ℕ) (t : Ty) → TextOf s t → (sent : List Sent) → Demand (type-rules t) (reads s .table) sent
+DemandTwoOfTexts = (s : List ℕ) (t : Ty) → TextOf s t → (sent : List Sent) → Watched (type-rules t) (reads s .table) sent
 
 -- demand 3: the report says `fit` exactly when no list of moves on the two types' machine ends with the device blamed or the machine
 -- jammed, and `no fit` exactly when some list does

@@ -13,7 +13,7 @@ use Rattle.monitor.specs.declared.State.{State}
 use Rattle.monitor.specs.Step.{Outcome, refusing, blaming, forwarding, stepping}
 use Rattle.monitor.proofs.Asking.{Way, refuses, forwards, blames, way}
 use Rattle.sojimu.specs.Codes.{sideOf, partyCode, standingCode, standingOf, stateOf, stateBytes, verdictCodes}
-use Rattle.sojimu.specs.Calls.{said-by, bytes-after, crossing, step-codes}
+use Rattle.sojimu.specs.Calls.{stepping-as, bytes-after, crossing, step-codes}
 
 party-same : (side : Party) → sideOf (partyCode side) ≡ some side
 party-same Device = refl
@@ -37,7 +37,7 @@ module _ (t : Words) (s : State) (side : Party) (message out : List ℕ) where
 
   pub codes-step : step-codes t (stateBytes s) (partyCode side) message out
       ≡ (verdictCodes (stepping t s side message out .verdict), stateBytes (stepping t s side message out .state), stepping t s side message out .output)
-  unfolding step-codes crossing said-by
+  unfolding step-codes crossing stepping-as
   codes-step =
       rw (party-same side, state-same s)
       (ap (λ (b : List ℕ). (verdictCodes (stepping t s side message out .verdict), b, stepping t s side message out .output)) (bytes-same (stepping t s side message out) (way t s side message out)))

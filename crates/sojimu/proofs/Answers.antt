@@ -13,7 +13,7 @@ use Rattle.table.proofs.Lists.{both}
 use Rattle.message.specs.Message.{count-of, whole, legal-values, exact, well-formed}
 use Rattle.message.proofs.Reading.{whole-parts}
 use Rattle.fit.specs.Machine.{Move, moves}
-use Rattle.fit.specs.Fit.{last-count, named}
+use Rattle.fit.specs.Fit.{last-count, field-named}
 use Rattle.fit.specs.Answer.{Answer, refused, fits, fails, Failed, Answered}
 use Rattle.sojimu.specs.declared.fits.Fit.{Fit}
 use Rattle.sojimu.specs.Codes.{highCode, fitCodes}
@@ -34,7 +34,7 @@ last-few (v ∷ w ∷ vs) e = last-few (w ∷ vs) (both (well-formed (v .bytes))
 
 module _ (d p : Words) (before : List ℕ) where
   high-few : (after : List ℕ) (K f : ℕ) → Failed d p before after K (some f) → f < 4
-  unfolding named
+  unfolding field-named
   high-few after K f x =
       let l = last-few _ (x .failing .real) in
       let h = ltb-true f _ (x .failing .field-is-there) in

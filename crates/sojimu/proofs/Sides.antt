@@ -23,7 +23,7 @@ use Rattle.monitor.specs.Due.{Awaited, refused, of-side, sending, awaited}
 use Rattle.monitor.proofs.Asking.{zero-or, not-its-turn, stops-there, goes-on, asked-first, asked-then, refused-step}
 use Rattle.sojimu.specs.declared.steps.Verdict.{Verdict}
 use Rattle.sojimu.specs.Codes.{sideOf, stateOf, stateBytes, verdictCodes}
-use Rattle.sojimu.specs.Calls.{said-by, bytes-after, crossing, step-codes}
+use Rattle.sojimu.specs.Calls.{stepping-as, bytes-after, crossing, step-codes}
 use Rattle.sojimu.specs.Inner.{stand-in}
 
 pub no-side : (code : ℕ) → (code ≡ 0 → ⊥) → (code ≡ 1 → ⊥) → sideOf code ≡ none
@@ -78,8 +78,8 @@ module _ (t : Words) (s : State) where
             (refused-step t s side message out 12
             (asked-then t s side message (length out) e ∙ not-its-turn (sort (view t) (s .position)) side message (length out) (not-speaking e)) (λ z. omega arith))
 
-  pub stands-in : (side : Option Party) (message out : List ℕ) → said-by side t s message out ≡ stepping t s (stand-in side (awaited t s)) message out
-  unfolding said-by stand-in
+  pub stands-in : (side : Option Party) (message out : List ℕ) → stepping-as side t s message out ≡ stepping t s (stand-in side (awaited t s)) message out
+  unfolding stepping-as stand-in
   stands-in (some side) message out = refl
   stands-in none message out = sym (out-of-turn-step (stand-in none (awaited t s)) message out (not-awaited (awaited t s)))
 
@@ -100,4 +100,4 @@ unfolding step-codes crossing outcome
 crossed t s side speaker bytes message out r verdict bytes' out' es ep er eb ev =
     rw (ev, eb)
     (ap (λ x. crossing x bytes)
-    (er ∙ ap (λ p. stepping t s p message out) ep ∙ sym (stands-in t s (sideOf side) message out) ∙ ap (λ s. said-by (sideOf side) t s message out) es))
+    (er ∙ ap (λ p. stepping t s p message out) ep ∙ sym (stands-in t s (sideOf side) message out) ∙ ap (λ s. stepping-as (sideOf side) t s message out) es))

@@ -24,9 +24,9 @@ use denote.Ref.{RefT}
 -- ---- one step
 
 -- what no side says is never in turn: 9, 10 and 11 are asked, and 12 gets a no
-unfoldable pub said-by : Option Party → Words → M.State → List ℕ → List ℕ → Outcome
-said-by (some side) t s message out = stepping t s side message out
-said-by none t s message out = refusing (first-no (of-state t s ++ ((12, false) ∷ []))) s out
+unfoldable pub stepping-as : Option Party → Words → M.State → List ℕ → List ℕ → Outcome
+stepping-as (some side) t s message out = stepping t s side message out
+stepping-as none t s message out = refusing (first-no (of-state t s ++ ((12, false) ∷ []))) s out
 
 -- the state's two bytes after a step: a refusal leaves them as they were
 unfoldable pub bytes-after : Told → M.State → List ℕ → List ℕ
@@ -40,9 +40,9 @@ crossing r bytes = (verdictCodes (r .verdict), bytes-after (r .verdict) (r .stat
 
 unfoldable pub step-codes : Words → List ℕ → ℕ → List ℕ → List ℕ → Verdict × List ℕ × List ℕ
 step-codes t bytes side message out =
-    crossing (said-by (sideOf side) t (stateOf (getD bytes 0 0) (getD bytes 1 0)) message out) bytes
+    crossing (stepping-as (sideOf side) t (stateOf (getD bytes 0 0) (getD bytes 1 0)) message out) bytes
 
--- ---- the due part
+-- ---- the due due-part
 
 -- the side whose turn it is, and the length of its first message; nothing of the device's where 9, 10 or 11 refuses
 unfoldable pub due-codes : Awaited → List ℕ → List ℕ → Due
@@ -50,13 +50,13 @@ due-codes (of-side Device) device host = record { side = 0; length = first-lengt
 due-codes (of-side Host) device host = record { side = 1; length = first-length host }
 due-codes (D.refused q) device host = record { side = 0; length = 0 }
 
--- the part that they name: the first `length` of that side's bytes. It is the due part of document 01 (proofs/Due, due-part)
+-- the due-part that they name: the first `length` of that side's bytes. It is the due due-part of document 01 (proofs/Due, due-part)
 unfoldable pub waiting : ℕ → RefT (List ℕ) → RefT (List ℕ) → RefT (List ℕ)
 waiting zero device host = device
 waiting (suc n) device host = host
 
-unfoldable pub part : Due → RefT (List ℕ) → RefT (List ℕ) → Seen
-part r device host = cut (waiting (r .side) device host) (r .length)
+unfoldable pub due-part : Due → RefT (List ℕ) → RefT (List ℕ) → Seen
+due-part r device host = cut (waiting (r .side) device host) (r .length)
 
 -- ---- the fit check
 

@@ -1,7 +1,7 @@
 // Messages: their questions, their label, and the message made from a branch.
 ghost use mathlib.Core.Path.{_≡_};
 ghost use Rattle.message.specs.Message.{has-label, frontOf, broken, refusal};
-ghost use Rattle.message.specs.Make.{highOf, told, making};
+ghost use Rattle.message.specs.Make.{highOf, made-numbers, making};
 ghost use Rattle.sojimu.specs.Codes.{headCodes, namedBy, madeCodes};
 ghost use Rattle.sojimu.specs.Inner.{SameBranch, SameField};
 use message::High;
@@ -91,7 +91,7 @@ fn high_of(named: u32) -> High
 }
 
 fn made_codes(made: message::Made) -> Made
-    ensures { λ r. ⌜ r ≡ madeCodes (told made) ⌝ }
+    ensures { λ r. ⌜ r ≡ madeCodes (made-numbers made) ⌝ }
 {
     match made {
         message::Made::Refused(question) => Made {

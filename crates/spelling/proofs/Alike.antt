@@ -14,7 +14,7 @@ use Rattle.text.specs.Token.{wordIn}
 use Rattle.text.specs.Number.{Signed, signedIn, offset, inKind}
 use Rattle.text.specs.Grammar.{Tok, word, number, sign, tokOf, or-else}
 use Rattle.text.specs.Building.{label-used, denied}
-use Rattle.text.specs.Reading.{Item, just, name, label, type, more, fields, field, low, high, moreFields, Open, State, state, openIn, tableIn, next, meaning, ownerIn, admits, asType, isFound, inRange, asLabel, wellFormed, allowed, bound, guarded, ranged, new-label, within, target, began, taken, run, questions}
+use Rattle.text.specs.Reading.{Item, just, name, label, type, more, fields, field, low, high, moreFields, Open, State, state, openIn, tableIn, next-item, meaning, ownerIn, admits, asType, isFound, inRange, asLabel, wellFormed, allowed, name-bound, guarded, ranged, new-label, within, target, began, taken, run-tokens, questions}
 use Rattle.text.specs.declared.token.Token.{Token}
 use Rattle.text.proofs.Toks.{word-kind, number-kind, kind-word, kind-number}
 use Rattle.text.proofs.Goes.{first-is, rest-is, never-empty, passed}
@@ -98,9 +98,9 @@ module _ (s u : List ℕ) (k j : Token) (same : tokOf s k ≡ tokOf u j) where
   unfolding allowed
   allowed-same st = rw kind-same
 
-  named-same : (st : State) → bound s st k ≡ bound u st j
-  unfolding bound
-  named-same st = bound-same (next st) (openIn st)
+  named-same : (st : State) → name-bound s st k ≡ name-bound u st j
+  unfolding name-bound
+  named-same st = bound-same (next-item st) (openIn st)
 
   guarded-same : (st : State) → guarded s st k ≡ guarded u st j
   unfolding guarded
@@ -108,11 +108,11 @@ module _ (s u : List ℕ) (k j : Token) (same : tokOf s k ≡ tokOf u j) where
 
   ranged-same : (st : State) → allowed s st k ≡ true → ranged s st k ≡ ranged u st j
   unfolding allowed ranged
-  ranged-same st a = range-same (next st) a
+  ranged-same st a = range-same (next-item st) a
 
   new-same : (st : State) → allowed s st k ≡ true → new-label s st k ≡ new-label u st j
   unfolding allowed new-label
-  new-same st a = label-same (next st) (tableIn st) (ownerIn (openIn st)) a
+  new-same st a = label-same (next-item st) (tableIn st) (ownerIn (openIn st)) a
 
   within-same : (st : State) → within s st k ≡ within u st j
   unfolding within
@@ -122,7 +122,7 @@ module _ (s u : List ℕ) (k j : Token) (same : tokOf s k ≡ tokOf u j) where
   unfolding first-no questions
   asked-same st =
       rw (formed-same st, named-same st, guarded-same st, within-same st)
-      (behind (wellFormed u st j) (λ r n. cond (bound u st j) (cond (guarded u st j) (cond r (cond n (cond (within u st j) 0 8) 7) 6) 5) 4)
+      (behind (wellFormed u st j) (λ r n. cond (name-bound u st j) (cond (guarded u st j) (cond r (cond n (cond (within u st j) 0 8) 7) 6) 5) 4)
       (allowed s st k) (allowed u st j) (ranged s st k) (ranged u st j) (new-label s st k) (new-label u st j) (allowed-same st) (ranged-same st) (new-same st))
     where
       -- after 3, what is asked may go by 3
@@ -165,12 +165,12 @@ module _ (s : List ℕ) where
     pub rest : List Token
     pub split : ks ≡ before ++ (here ∷ rest)
     pub place : here .start ≡ p
-    pub none : (u : List ℕ) (js : List Token) (ts : List Tok) → map (tokOf u) js ≡ map (tokOf s) before ++ (tokOf s here ∷ ts) → run u st js .question ≡ 0 → ⊥
+    pub none : (u : List ℕ) (js : List Token) (ts : List Tok) → map (tokOf u) js ≡ map (tokOf s) before ++ (tokOf s here ∷ ts) → run-tokens u st js .question ≡ 0 → ⊥
 
   stop-here : (st : State) (k : Token) (ks : List Token) → (asked s st k ≡ 0 → ⊥) → Stop st (k ∷ ks) (k .start)
   stop-here st k ks h = record { before = []; here = k; rest = ks; split = refl; place = refl; none = none }
     where
-      none : (u : List ℕ) (js : List Token) (ts : List Tok) → map (tokOf u) js ≡ tokOf s k ∷ ts → run u st js .question ≡ 0 → ⊥
+      none : (u : List ℕ) (js : List Token) (ts : List Tok) → map (tokOf u) js ≡ tokOf s k ∷ ts → run-tokens u st js .question ≡ 0 → ⊥
       none u [] ts e z = never-empty e
       none u (j ∷ js) ts e z = h (asked-same s u k j (sym (first-is e)) st ∙ passed u st j js z .0)
 
@@ -179,19 +179,19 @@ module _ (s : List ℕ) where
       record { before = k ∷ r .before; here = r .here; rest = r .rest; split = ap (λ (l : List Token). k ∷ l) (r .split); place = r .place; none = none }
     where
       none : (u : List ℕ) (js : List Token) (ts : List Tok) → map (tokOf u) js ≡ tokOf s k ∷ (map (tokOf s) (r .before) ++ (tokOf s (r .here) ∷ ts))
-          → run u st js .question ≡ 0 → ⊥
+          → run-tokens u st js .question ≡ 0 → ⊥
       none u [] ts e z = never-empty e
       none u (j ∷ js) ts e z =
           let t = taken-same s u k j (sym (first-is e)) st (asked-none s k st h) in
-          r .none u js ts (rest-is e) (ap (λ (x : State). run u x js .question) t ∙ passed u st j js z .1)
+          r .none u js ts (rest-is e) (ap (λ (x : State). run-tokens u x js .question) t ∙ passed u st j js z .1)
 
-  pub stop : (ks : List Token) (st : State) → (run s st ks .question ≡ 0 → ⊥) → Stop st ks (run s st ks .at)
-  unfolding run denied
+  pub stop : (ks : List Token) (st : State) → (run-tokens s st ks .question ≡ 0 → ⊥) → Stop st ks (run-tokens s st ks .at)
+  unfolding run-tokens denied
   stop [] st h = absurd (h refl)
   stop (k ∷ ks) st h = go (eqb (asked s st k) 0) refl h (stop ks (taken s st k))
     where
-      go : (b : Bool) → eqb (asked s st k) 0 ≡ b → (cond b (run s (taken s st k) ks) (denied (asked s st k) (k .start)) .question ≡ 0 → ⊥)
-          → ((run s (taken s st k) ks .question ≡ 0 → ⊥) → Stop (taken s st k) ks (run s (taken s st k) ks .at))
-          → Stop st (k ∷ ks) (cond b (run s (taken s st k) ks) (denied (asked s st k) (k .start)) .at)
+      go : (b : Bool) → eqb (asked s st k) 0 ≡ b → (cond b (run-tokens s (taken s st k) ks) (denied (asked s st k) (k .start)) .question ≡ 0 → ⊥)
+          → ((run-tokens s (taken s st k) ks .question ≡ 0 → ⊥) → Stop (taken s st k) ks (run-tokens s (taken s st k) ks .at))
+          → Stop st (k ∷ ks) (cond b (run-tokens s (taken s st k) ks) (denied (asked s st k) (k .start)) .at)
       go true e h later = stop-later st k ks _ (eqb-true _ _ e) (later h)
       go false e h later = stop-here st k ks (eqb-false _ _ e)

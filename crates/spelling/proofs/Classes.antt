@@ -16,7 +16,7 @@ use Rattle.text.specs.Token.{oneOf, isSpace, classOf}
 use Rattle.text.specs.declared.token.Class.{Class}
 use Rattle.text.specs.declared.token.Class.the-variants.{Space, Lower, Upper, Digit, Dot, Minus, Sign, Other}
 use Rattle.text.proofs.Bytes.{code, is, ranged, class-test, upper-word, lower-word}
-use Rattle.spelling.specs.Spelling.{digit, blank, signs, Listed}
+use Rattle.spelling.specs.Spelling.{a-digit, blank, sign-tokens, Listed}
 use Rattle.spelling.specs.Speller.{beside}
 use Rattle.text.specs.Token as S
 
@@ -29,7 +29,7 @@ pub class-upper : (b : ℕ) → upper b ≡ true → classOf b ≡ Upper
 unfolding classOf upper
 class-upper b e = let p = in-range 65 90 b e in sym (ranged Upper (λ k. false) 65 26 b tt refl (p .0) (omega arith))
 
-pub class-digit : (b : ℕ) → digit b ≡ true → classOf b ≡ Digit
+pub class-digit : (b : ℕ) → a-digit b ≡ true → classOf b ≡ Digit
 unfolding classOf
 class-digit b e = let p = in-range 48 57 b e in sym (ranged Digit (λ k. false) 48 10 b tt refl (p .0) (omega arith))
 
@@ -75,11 +75,11 @@ same-is (x ∷ a) [] e = never e refl
 same-is (x ∷ a) (y ∷ b) e = let p = both (eqb x y) (same a b) e in ap₂ _∷_ (eqb-true x y (p .0)) (same-is a b (p .1))
 
 -- a sign of the scanner's is one of document 01's, and its kind is its byte
-is-listed : (b : ℕ) → oneOf S.signs b ≡ true → Listed signs b (b ∷ [])
+is-listed : (b : ℕ) → oneOf S.signs b ≡ true → Listed sign-tokens b (b ∷ [])
 unfolding every same matched beside
 is-listed b e =
-    let p = both (oneOf (kinds signs) b) (same (beside signs b) (b ∷ [])) (each-one (λ k. oneOf (kinds signs) k && same (beside signs k) (k ∷ [])) S.signs b refl e) in
-    rw (same-is (beside signs b) (b ∷ []) (p .1)) at (beside-listed signs b (p .0))
+    let p = both (oneOf (kinds sign-tokens) b) (same (beside sign-tokens b) (b ∷ [])) (each-one (λ k. oneOf (kinds sign-tokens) k && same (beside sign-tokens k) (k ∷ [])) S.signs b refl e) in
+    rw (same-is (beside sign-tokens b) (b ∷ []) (p .1)) at (beside-listed sign-tokens b (p .0))
 
 -- ---- from a class to its bytes
 
@@ -91,10 +91,10 @@ abbrev pub Seen : ℕ → Class → Type 0
 Seen b Space = Unit {0}
 Seen b Lower = letter-or-digit b ≡ true
 Seen b Upper = (upper b ≡ true) × (letter-or-digit b ≡ true)
-Seen b Digit = digit b ≡ true
+Seen b Digit = a-digit b ≡ true
 Seen b Dot = b ≡ 46
 Seen b Minus = b ≡ 45
-Seen b Sign = Listed signs b (b ∷ [])
+Seen b Sign = Listed sign-tokens b (b ∷ [])
 Seen b Other = Unit {0}
 
 pub seen : (b : ℕ) → Seen b (classOf b)

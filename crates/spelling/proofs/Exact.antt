@@ -14,7 +14,7 @@ use Rattle.text.specs.Filled.{came-out, filled}
 use Rattle.text.specs.Grammar.{Field, Ty, stop, var, loop, choice, Br, last, also, Tok, sign, arrow, printMore, printFields, print, printBr, tableOf}
 use Rattle.text.proofs.Bytes.{upper-word}
 use Rattle.text.proofs.Packed.{label-word}
-use Rattle.spelling.specs.Spelling.{digit, Digits, Spells, a-sign, a-dot, a-word, a-name, a-zero, a-number, a-negative, Spelt, ran-out, a-blank, a-token}
+use Rattle.spelling.specs.Spelling.{a-digit, Digits, Spells, a-sign, a-dot, a-word, a-name, a-zero, a-number, a-negative, Spelt, ran-out, a-blank, a-token}
 use Rattle.spelling.specs.Speller.{spell, Writable, OfFields, Of, OfBr}
 use Rattle.spelling.specs.Theorems.{SpellableExactly, SpellRead}
 use Rattle.spelling.proofs.Read.{read-spelt}
@@ -30,7 +30,7 @@ value-ge (b ∷ w) v = omega (arith, value-ge w (v * 10 + (b - 48)))
 positive : (b : ℕ) (w : List ℕ) → Digits (b ∷ w) → valueOf 0 (b ∷ w) ≡ 0 → ⊥
 unfolding valueOf every
 positive b w h z =
-    let d = both (leb 48 b) (leb b 57) (both (leb 48 b && leb b 57) (every digit w) (h .0) .0) in
+    let d = both (leb 48 b) (leb b 57) (both (leb 48 b && leb b 57) (every a-digit w) (h .0) .0) in
     let l : 48 ≤ b = leb-true 48 b (d .0) in
     let n = h .1 in
     omega (arith, value-ge w (0 * 10 + (b - 48)))

@@ -5,13 +5,13 @@ use Prim.Native.Nat.{ℕ}
 use native.Mathlib.Omega.{arith}
 use Rattle.table.specs.Lists.{same, matched}
 use Rattle.table.specs.Table.{letter-or-digit}
-use Rattle.text.specs.Token.{classOf, runOf, runEnd, wordKind, wordAt, nameAt, numberKind, numberAt, dotsAt, beginAt, tokenAt, tokensFrom, tokens, packed, wordOf}
+use Rattle.text.specs.Token.{classOf, runOf, runEnd, wordKind, word-token, name-token, numberKind, number-token, dots-token, beginAt, tokenAt, tokensFrom, tokens, packed, wordOf}
 use Rattle.text.specs.Number.{signedOf, valueOf}
 use Rattle.text.specs.Grammar.{stop, Tok, sign, printText, tokOf}
 use Rattle.text.proofs.Toks.{tag, sign-in}
 use Rattle.spelling.specs.Spelling.{Spelt}
 use Rattle.spelling.specs.Theorems.{WellFormed}
-use Rattle.spelling.specs.Examples.{P, Examples}
+use Rattle.spelling.specs.Examples.{P-type, Examples}
 use Rattle.spelling.proofs.Scan.{spelt-scanned}
 use Rattle.spelling.proofs.Read.{text-formed}
 
@@ -23,9 +23,9 @@ nothing-spelt s us ts e sp = let h = spelt-scanned s ts .0 sp in formed (sym (h 
     formed e w = (rw e at w) .0 refl
 
 pub examples : Examples
-unfolding same matched letter-or-digit classOf runOf runEnd wordKind wordAt nameAt numberKind numberAt dotsAt beginAt tokenAt tokensFrom tokens wordOf packed signedOf valueOf tokOf
+unfolding same matched letter-or-digit classOf runOf runEnd wordKind word-token name-token numberKind number-token dots-token beginAt tokenAt tokensFrom tokens wordOf packed signedOf valueOf tokOf
 examples = record {
-  protocol = spelt-scanned _ (printText P) .1 (refl, text-formed P);
+  protocol = spelt-scanned _ (printText P-type) .1 (refl, text-formed P-type);
   blanks = spelt-scanned _ (printText stop) .1 (refl, text-formed stop);
   tab = λ ts. nothing-spelt _ _ ts refl;
   two-tokens = spelt-scanned _ _ .1 (refl, ((λ e. omega (arith, ap tag e)), ((λ e. omega (arith, ap tag e)), ((λ e. omega (arith, ap sign-in e)), tt))));

@@ -13,7 +13,7 @@ use borrow.Author.Tests.{ne-eqb, le-leb, lt-leb, leb-true}
 use Rattle.table.specs.Lists.{every, same, matched}
 use Rattle.table.specs.Table.{upper, letter-or-digit}
 use Rattle.table.proofs.Lists.{both, join, never}
-use Rattle.text.specs.Token.{oneOf, isSpace, classOf, runOf, runEnd, part, token, wordKind, wordAt, nameAt, numberKind, numberAt, dotsAt, beginAt, tokenAt, wordOf}
+use Rattle.text.specs.Token.{oneOf, isSpace, classOf, runOf, runEnd, part, token, wordKind, word-token, name-token, numberKind, number-token, dots-token, beginAt, tokenAt, wordOf}
 use Rattle.text.specs.Number.{valueOf, signedOf}
 use Rattle.text.specs.Grammar.{Tok, word, number, sign, tokOf}
 use Rattle.text.specs.declared.token.Class.{Class}
@@ -23,14 +23,14 @@ use Rattle.text.proofs.Bytes.{code, upper-word}
 use Rattle.text.proofs.Runs.{run-off}
 use Rattle.text.proofs.Toks.{kind-sign, kind-word, kind-number}
 use Rattle.table.specs.Ascii.{ascii}
-use Rattle.spelling.specs.Spelling.{digit, dot, signs, dots, words, Listed, Spells, a-sign, a-dot, a-word, a-name, a-zero, a-number, a-negative, Ends}
+use Rattle.spelling.specs.Spelling.{a-digit, dot, sign-tokens, dot-tokens, word-tokens, Listed, Spells, a-sign, a-dot, a-word, a-name, a-zero, a-number, a-negative, EndsRun}
 use Rattle.spelling.specs.Places.{kindIn}
 use Rattle.spelling.proofs.Classes.{class-upper, class-digit, space-code}
 
 -- ---- runs
 
 -- the longest run is what was meant
-pub run-is : (f : ℕ → Bool) (w r : List ℕ) → every f w ≡ true → Ends f r → runOf f (w ++ r) ≡ length w
+pub run-is : (f : ℕ → Bool) (w r : List ℕ) → every f w ≡ true → EndsRun f r → runOf f (w ++ r) ≡ length w
 unfolding runOf every
 run-is f [] [] e h = refl
 run-is f [] (b ∷ r) e h = rw h
@@ -61,7 +61,7 @@ module _ (s : List ℕ) (p : ℕ) where
     pub past-here : drop (p + length w) s ≡ r
     past-here = sym (drop-drop (length w) p s) ∙ ap (drop (length w)) e ∙ drop-append-seam w r
 
-    pub run-here : (f : ℕ → Bool) → every f w ≡ true → Ends f r → runEnd f s p ≡ p + length w
+    pub run-here : (f : ℕ → Bool) → every f w ≡ true → EndsRun f r → runEnd f s p ≡ p + length w
     unfolding runEnd
     run-here f a h = rw e (ap (λ n. p + n) (run-is f w r a h))
 
@@ -119,15 +119,15 @@ IsDot k w = (every dot w ≡ true) × (classOf (getD w 0 0) ≡ Dot) × (cond (e
 abbrev IsWord : ℕ → List ℕ → Type 0
 IsWord k w = (every letter-or-digit w ≡ true) × (classOf (getD w 0 0) ≡ Lower) × (wordKind w ≡ k) × Plain k
 
-all-signs : Each IsSign signs
+all-signs : Each IsSign sign-tokens
 unfolding classOf
 all-signs = ((refl, refl, refl), ((refl, refl, refl), ((refl, refl, refl), ((refl, refl, refl), ((refl, refl, refl), ((refl, refl, refl), ((refl, refl, refl), ((refl, refl, refl), ((refl, refl, refl), ((refl, refl, refl), ((refl, refl, refl), tt)))))))))))
 
-all-dots : Each IsDot dots
+all-dots : Each IsDot dot-tokens
 unfolding classOf every
 all-dots = ((refl, refl, refl, refl), ((refl, refl, refl, refl), tt))
 
-all-words : Each IsWord words
+all-words : Each IsWord word-tokens
 unfolding classOf every letter-or-digit wordKind same matched
 all-words = ((refl, refl, refl, refl), ((refl, refl, refl, refl), ((refl, refl, refl, refl), ((refl, refl, refl, refl), ((refl, refl, refl, refl), tt)))))
 
@@ -165,24 +165,24 @@ module _ (s : List ℕ) (p : ℕ) where
         let n : length w ≡ 1 = ap length (h .0) in
         rw n (found-sign k 1 (starts s p (k ∷ []) r d Sign (h .1) refl ∙ ap (λ (b : ℕ). token b p (p + 1)) (byte-here s p k r d)) (h .2))
 
-    dot-found : (k : ℕ) → IsDot k w → Ends dot r → Found s p (sign k) (length w)
-    unfolding beginAt dotsAt
+    dot-found : (k : ℕ) → IsDot k w → EndsRun dot r → Found s p (sign k) (length w)
+    unfolding beginAt dots-token
     dot-found k h o =
         let z : p + length w - p ≡ length w = omega arith in
         found-sign k (length w)
         (starts s p w r e Dot (h .1) refl ∙ rw (run-here s p w r e dot (h .0) o, z) (ap (λ (k : ℕ). token k p (p + length w)) (h .2))) (h .3)
 
-    word-found : (k : ℕ) → IsWord k w → Ends letter-or-digit r → Found s p (sign k) (length w)
-    unfolding beginAt wordAt
+    word-found : (k : ℕ) → IsWord k w → EndsRun letter-or-digit r → Found s p (sign k) (length w)
+    unfolding beginAt word-token
     word-found k h o =
         found-sign k (length w)
         (starts s p w r e Lower (h .1) refl
         ∙ rw (run-here s p w r e letter-or-digit (h .0) o, part-here s p w r e) (ap (λ (k : ℕ). token k p (p + length w)) (h .2)))
         (h .3)
 
-  name-found : (b : ℕ) (w r : List ℕ) → drop p s ≡ (b ∷ w) ++ r → upper b ≡ true → every letter-or-digit (b ∷ w) ≡ true → length (b ∷ w) ≤ 8 → Ends letter-or-digit r
+  name-found : (b : ℕ) (w r : List ℕ) → drop p s ≡ (b ∷ w) ++ r → upper b ≡ true → every letter-or-digit (b ∷ w) ≡ true → length (b ∷ w) ≤ 8 → EndsRun letter-or-digit r
       → Found s p (word (wordOf (b ∷ w))) (length (b ∷ w))
-  unfolding beginAt nameAt
+  unfolding beginAt name-token
   name-found b w r e u a m o =
       let z : p + length (b ∷ w) - p ≡ length (b ∷ w) = omega arith in
       found-word (b ∷ w) r e
@@ -190,46 +190,46 @@ module _ (s : List ℕ) (p : ℕ) where
       ∙ rw (run-here s p (b ∷ w) r e letter-or-digit a o, z, le-leb (length (b ∷ w)) 8 m))
 
   -- digits from here on: 0 alone, or no 0 at the front
-  digits-found : (b : ℕ) (w r : List ℕ) → drop p s ≡ (b ∷ w) ++ r → every digit (b ∷ w) ≡ true → _≡_ {A = ℕ} (cond (eqb b 48) (cond (eqb (length (b ∷ w)) 1) 48 1) 48) 48 → Ends digit r
+  digits-found : (b : ℕ) (w r : List ℕ) → drop p s ≡ (b ∷ w) ++ r → every a-digit (b ∷ w) ≡ true → _≡_ {A = ℕ} (cond (eqb b 48) (cond (eqb (length (b ∷ w)) 1) 48 1) 48) 48 → EndsRun a-digit r
       → Found s p (number (signedOf (b ∷ w))) (length (b ∷ w))
-  unfolding beginAt numberAt numberKind every
+  unfolding beginAt number-token numberKind every
   digits-found b w r e a h o =
       let z : p + length (b ∷ w) - p ≡ length (b ∷ w) = omega arith in
       found-number (b ∷ w) r e
-      (starts s p (b ∷ w) r e Digit (class-digit b (both (digit b) (every digit w) a .0)) refl
-      ∙ rw (run-here s p (b ∷ w) r e digit a o, z, ne-eqb (p + length (b ∷ w)) p (λ q. omega arith), byte-here s p b (w ++ r) e)
+      (starts s p (b ∷ w) r e Digit (class-digit b (both (a-digit b) (every a-digit w) a .0)) refl
+      ∙ rw (run-here s p (b ∷ w) r e a-digit a o, z, ne-eqb (p + length (b ∷ w)) p (λ q. omega arith), byte-here s p b (w ++ r) e)
       (ap (λ (k : ℕ). token k p (p + length (b ∷ w))) h))
 
   -- a minus and digits, no 0 at the front
-  minus-found : (b : ℕ) (w r : List ℕ) → drop p s ≡ (45 ∷ b ∷ w) ++ r → every digit (b ∷ w) ≡ true → (b ≡ 48 → ⊥) → Ends digit r
+  minus-found : (b : ℕ) (w r : List ℕ) → drop p s ≡ (45 ∷ b ∷ w) ++ r → every a-digit (b ∷ w) ≡ true → (b ≡ 48 → ⊥) → EndsRun a-digit r
       → Found s p (number (signedOf (45 ∷ b ∷ w))) (length (45 ∷ b ∷ w))
-  unfolding beginAt numberAt numberKind classOf
+  unfolding beginAt number-token numberKind classOf
   minus-found b w r e a h o =
       let n : drop (p + 1) s ≡ (b ∷ w) ++ r = next-here s p 45 ((b ∷ w) ++ r) e in
       let z : p + 1 + length (b ∷ w) ≡ p + length (45 ∷ b ∷ w) = omega arith in
       found-number (45 ∷ b ∷ w) r e
       (starts s p (45 ∷ b ∷ w) r e Minus refl refl
-      ∙ rw (run-here s (p + 1) (b ∷ w) r n digit a o, ne-eqb (p + 1 + length (b ∷ w)) (p + 1) (λ q. omega arith), byte-here s (p + 1) b (w ++ r) n, ne-eqb b 48 h, z))
+      ∙ rw (run-here s (p + 1) (b ∷ w) r n a-digit a o, ne-eqb (p + 1 + length (b ∷ w)) (p + 1) (λ q. omega arith), byte-here s (p + 1) b (w ++ r) n, ne-eqb b 48 h, z))
 
 -- digits are no minus
-digit-value : (b : ℕ) (w : List ℕ) → digit b ≡ true → signedOf (b ∷ w) ≡ record { minus = false; value = valueOf 0 (b ∷ w) }
+digit-value : (b : ℕ) (w : List ℕ) → a-digit b ≡ true → signedOf (b ∷ w) ≡ record { minus = false; value = valueOf 0 (b ∷ w) }
 unfolding signedOf
 digit-value b w e =
     let h : 48 ≤ b = leb-true 48 b (both (leb 48 b) (leb b 57) e .0) in
     rw (ne-eqb b 45 (λ q. omega arith))
 
 -- a token's bytes are found as the token
-pub found : (s : List ℕ) (p : ℕ) {t : Tok} {w : List ℕ} {more : ℕ → Bool} (r : List ℕ) → Spells t w more → Ends more r → drop p s ≡ w ++ r → Found s p t (length w)
+pub found : (s : List ℕ) (p : ℕ) {t : Tok} {w : List ℕ} {more : ℕ → Bool} (r : List ℕ) → Spells t w more → EndsRun more r → drop p s ≡ w ++ r → Found s p t (length w)
 unfolding every signedOf valueOf
-found s p r (a-sign {k} {w} l) o e = sign-found s p w r e k (each-listed IsSign signs k w all-signs l)
-found s p r (a-dot {k} {w} l) o e = dot-found s p w r e k (each-listed IsDot dots k w all-dots l) o
-found s p r (a-word {k} {w} l) o e = word-found s p w r e k (each-listed IsWord words k w all-words l) o
+found s p r (a-sign {k} {w} l) o e = sign-found s p w r e k (each-listed IsSign sign-tokens k w all-signs l)
+found s p r (a-dot {k} {w} l) o e = dot-found s p w r e k (each-listed IsDot dot-tokens k w all-dots l) o
+found s p r (a-word {k} {w} l) o e = word-found s p w r e k (each-listed IsWord word-tokens k w all-words l) o
 found s p r (a-name {w = []} h) o e = absurd h
 found s p r (a-name {w = b ∷ w} h) o e = name-found s p b w r e (h .0) (join (upper-word b (h .0)) (h .1)) (h .2) o
 found s p r a-zero o e = digits-found s p 48 [] r e refl refl o
 found s p r (a-number {w = []} h) o e = absurd h
 found s p r (a-number {w = b ∷ w} h) o e =
-    let g = both (digit b) (every digit w) (h .0) in
+    let g = both (a-digit b) (every a-digit w) (h .0) in
     rw (← (digit-value b w (g .0))) (digits-found s p b w r e (h .0) (rw (ne-eqb b 48 (h .1))) o)
 found s p r (a-negative {w = []} h) o e = absurd h
 found s p r (a-negative {w = b ∷ w} h) o e = minus-found s p b w r e (h .0) (h .1) o

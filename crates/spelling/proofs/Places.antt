@@ -11,10 +11,10 @@ use lib.ListN.{length, drop, length-drop, length-append}
 use borrow.Author.Tests.{eq-eqb, ne-eqb, eqb-true, eqb-false}
 use Rattle.table.specs.Lists.{first-no}
 use Rattle.text.proofs.Asked.{asked}
-use Rattle.text.specs.Token.{classOf, token, wordAt, nameAt, numberAt, dotsAt, beginAt, tokenAt, tokensFrom, tokens}
-use Rattle.text.specs.Building.{Answer, denied}
+use Rattle.text.specs.Token.{classOf, token, word-token, name-token, number-token, dots-token, beginAt, tokenAt, tokensFrom, tokens}
+use Rattle.text.specs.Building.{Built, denied}
 use Rattle.text.specs.Filled.{written}
-use Rattle.text.specs.Reading.{State, start, wellFormed, taken, run, answered, reads, questions}
+use Rattle.text.specs.Reading.{State, start, wellFormed, taken, run-tokens, built, reads, questions}
 use Rattle.text.specs.Grammar.{text-limit, Tok}
 use Rattle.text.specs.declared.token.Class.{Class}
 use Rattle.text.specs.declared.token.Class.the-variants.{Space, Lower, Upper, Digit, Dot, Minus, Sign, Other}
@@ -37,7 +37,7 @@ upto n s p = upto-bad (tokensFrom n s p)
 
 module _ (s : List ℕ) where
   begin-start : (p : ℕ) (x : Class) → beginAt s p x .start ≡ p
-  unfolding beginAt wordAt nameAt numberAt dotsAt
+  unfolding beginAt word-token name-token number-token dots-token
   begin-start p Space = refl
   begin-start p Lower = refl
   begin-start p Upper = refl
@@ -135,15 +135,15 @@ asked-bad : (s : List ℕ) (st : State) (k : Token) → eqb (k .kind) 1 ≡ true
 unfolding first-no questions wellFormed
 asked-bad s st k e = rw e
 
-run-upto : (s : List ℕ) (ks : List Token) (st : State) → run s st ks ≡ run s st (upto-bad ks)
-unfolding run upto-bad
+run-upto : (s : List ℕ) (ks : List Token) (st : State) → run-tokens s st ks ≡ run-tokens s st (upto-bad ks)
+unfolding run-tokens upto-bad
 run-upto s [] st = refl
 run-upto s (k ∷ ks) st = go (eqb (k .kind) 1) refl (run-upto s ks)
   where
-    go : (b : Bool) → eqb (k .kind) 1 ≡ b → ((st : State) → run s st ks ≡ run s st (upto-bad ks))
-        → run s st (k ∷ ks) ≡ run s st (cond b (token 1 (k .start) (k .start) ∷ []) (k ∷ upto-bad ks))
+    go : (b : Bool) → eqb (k .kind) 1 ≡ b → ((st : State) → run-tokens s st ks ≡ run-tokens s st (upto-bad ks))
+        → run-tokens s st (k ∷ ks) ≡ run-tokens s st (cond b (token 1 (k .start) (k .start) ∷ []) (k ∷ upto-bad ks))
     go true e ih = rw (asked-bad s st k e, asked-bad s st (token 1 (k .start) (k .start)) refl)
-    go false e ih = ap (λ (r : Answer). cond (eqb (asked s st k) 0) r (denied (asked s st k) (k .start))) (ih (taken s st k))
+    go false e ih = ap (λ (r : Built). cond (eqb (asked s st k) 0) r (denied (asked s st k) (k .start))) (ih (taken s st k))
 
 -- ---- the theorems
 
@@ -157,12 +157,12 @@ placed-scanned s ks = (
 
 -- Reading any text, refusals and their places included, is asking the questions at the tokens that stand in it.
 pub read-placed : ReadPlaced
-unfolding reads answered
+unfolding reads built
 read-placed s r = (
   (λ e. (upto-bad (tokens s), placed-scanned s (upto-bad (tokens s)) .1 refl, sym (same (upto-bad (tokens s)) refl) ∙ e)),
   (λ h. same (h .0) (placed-scanned s (h .0) .0 (h .1)) ∙ h .2),
 )
   where
     same : (ks : List Token) → upto-bad (tokens s) ≡ ks
-        → written (cond (leb (length s) text-limit) (run s start (tokens s)) (denied 1 0)) ≡ written (cond (leb (length s) text-limit) (run s start ks) (denied 1 0))
-    same ks e = ap (λ (r : Answer). written (cond (leb (length s) text-limit) r (denied 1 0))) (run-upto s (tokens s) start ∙ ap (run s start) e)
+        → written (cond (leb (length s) text-limit) (run-tokens s start (tokens s)) (denied 1 0)) ≡ written (cond (leb (length s) text-limit) (run-tokens s start ks) (denied 1 0))
+    same ks e = ap (λ (r : Built). written (cond (leb (length s) text-limit) r (denied 1 0))) (run-upto s (tokens s) start ∙ ap (run-tokens s start) e)

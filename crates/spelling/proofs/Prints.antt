@@ -1,4 +1,4 @@
--- What holds of the signs of the grammar and of a type's names, labels and numbers holds of the tokens that it is written with.
+-- What holds of the sign-tokens of the grammar and of a type's names, labels and numbers holds of the tokens that it is written with.
 -- Assumes nothing.
 use mathlib.Core.Path.{_≡_, refl}
 use mathlib.Core.Bool.{true}
@@ -7,13 +7,13 @@ use Prim.Native.Nat.{ℕ}
 use Rattle.text.specs.Token.{oneOf}
 use Rattle.text.specs.Number.{Signed}
 use Rattle.text.specs.Grammar.{Way, sends, receives, Kind, int, text, flag, Field, Ty, stop, var, loop, choice, Br, last, also, Tok, word, number, sign, mark, arrow, letter, printField, printMore, printFields, printHead, print, printBr}
-use Rattle.spelling.specs.Spelling.{signs, dots, words}
+use Rattle.spelling.specs.Spelling.{sign-tokens, dot-tokens, word-tokens}
 use Rattle.spelling.specs.Speller.{OfFields, Of, OfBr}
 use Rattle.spelling.proofs.Classes.{kinds}
 
--- the signs, dots and words of the grammar
+-- the sign-tokens, dot-tokens and word-tokens of the grammar
 abbrev pub fixed : List ℕ
-fixed = kinds (signs ++ dots ++ words)
+fixed = kinds (sign-tokens ++ dot-tokens ++ word-tokens)
 
 is-mark : (w : Way) → (oneOf fixed (mark w) ≡ true) × (oneOf fixed (arrow w) ≡ true)
 is-mark sends = (refl, refl)

@@ -15,7 +15,7 @@ use Rattle.table.proofs.Lists.{never}
 use Rattle.text.specs.Token.{token, tokens}
 use Rattle.text.specs.Building.{denied}
 use Rattle.text.specs.Filled.{Reading, refused, written}
-use Rattle.text.specs.Reading.{start, run, answered, reads}
+use Rattle.text.specs.Reading.{start, run-tokens, built, reads}
 use Rattle.text.specs.Grammar.{Ty, Tok, word, number, sign, printText, tokOf}
 use Rattle.text.specs.declared.token.Token.{Token}
 use Rattle.text.proofs.Toks.{kind-sign}
@@ -37,11 +37,11 @@ use Rattle.spelling.proofs.Split.{at-once}
 
 -- ---- by 2 to 8
 
-run-read : (u : List ℕ) → reads u .question ≡ 0 → run u start (tokens u) .question ≡ 0
-unfolding reads answered denied
+run-read : (u : List ℕ) → reads u .question ≡ 0 → run-tokens u start (tokens u) .question ≡ 0
+unfolding reads built denied
 run-read u h = go (leb (length u) 8192) h
   where
-    go : (b : Bool) → cond b (run u start (tokens u)) (denied 1 0) .question ≡ 0 → run u start (tokens u) .question ≡ 0
+    go : (b : Bool) → cond b (run-tokens u start (tokens u)) (denied 1 0) .question ≡ 0 → run-tokens u start (tokens u) .question ≡ 0
     go true h = h
     go false h = absurd (omega arith)
 
@@ -56,12 +56,12 @@ pub refused-means : RefusedMeans
 unfolding refused denied
 refused-means s q p l h = let r = read-placed s (refused q p) .0 h in go (r .0) (r .1) (leb (length s) 8192) (r .2)
   where
-    go : (ks : List Token) → Placed s 0 ks → (b : Bool) → written (cond b (run s start ks) (denied 1 0)) ≡ refused q p
+    go : (ks : List Token) → Placed s 0 ks → (b : Bool) → written (cond b (run-tokens s start ks) (denied 1 0)) ≡ refused q p
         → At s p × ((a : At s p) (u : List ℕ) (ts : List Tok) → Spelt u (upto-here a ts) → reads u .question ≡ 0 → ⊥)
     go ks pl false e = let z : _≡_ {A = ℕ} 1 q = ap (λ (r : Reading). r .question) e in absurd (omega arith)
     go ks pl true e =
-        let z : run s start ks .question ≡ q = ap (λ (r : Reading). r .question) e in
-        let f : Stop s start ks (run s start ks .at) = stop s ks start (λ n. omega arith) in
+        let z : run-tokens s start ks .question ≡ q = ap (λ (r : Reading). r .question) e in
+        let f : Stop s start ks (run-tokens s start ks .at) = stop s ks start (λ n. omega arith) in
         let b : At s p = record {
           before = f .before;
           here = f .here;

@@ -12,7 +12,7 @@ use borrow.Author.Tests.{eq-eqb, ne-eqb, eqb-true, eqb-false, le-leb, lt-leb, le
 use Rattle.table.specs.Lists.{every, same}
 use Rattle.table.specs.Table.{upper, letter-or-digit}
 use Rattle.table.proofs.Lists.{both, join}
-use Rattle.text.specs.Token.{isSpace, classOf, runEnd, token, wordKind, wordAt, nameAt, numberKind, numberAt, dotsAt, beginAt, tokenAt, tokensFrom, tokens}
+use Rattle.text.specs.Token.{isSpace, classOf, runEnd, token, wordKind, word-token, name-token, numberKind, number-token, dots-token, beginAt, tokenAt, tokensFrom, tokens}
 use Rattle.text.specs.Grammar.{Tok, number, sign, tokOf}
 use Rattle.text.specs.declared.token.Class.{Class}
 use Rattle.text.specs.declared.token.Class.the-variants.{Space, Lower, Upper, Digit, Dot, Minus, Sign, Other}
@@ -21,7 +21,7 @@ use Rattle.text.proofs.Runs.{run-on, run-off, run-out}
 use Rattle.text.proofs.Onward.{onward}
 use Rattle.text.proofs.Toks.{tag, sign-in, kind-sign}
 use Rattle.table.specs.Ascii.{ascii}
-use Rattle.spelling.specs.Spelling.{digit, dot, blank, signs, dots, words, Listed, Spells, a-sign, a-dot, a-word, a-name, a-zero, a-number, a-negative, Ends, Spelt, ran-out, a-blank, a-token}
+use Rattle.spelling.specs.Spelling.{a-digit, dot, blank, sign-tokens, dot-tokens, word-tokens, Listed, Spells, a-sign, a-dot, a-word, a-name, a-zero, a-number, a-negative, EndsRun, Spelt, ran-out, a-blank, a-token}
 use Rattle.spelling.specs.Places.{Begins}
 use Rattle.spelling.specs.Theorems.{WellFormed, SpeltScanned}
 use Rattle.spelling.proofs.Classes.{same-is, Seen, seen, space-blank}
@@ -84,7 +84,7 @@ record Split (f : ℕ → Bool) (u : List ℕ) : Type 0 where
   rest : List ℕ
   is : u ≡ front ++ rest
   all : every f front ≡ true
-  ends : Ends f rest
+  ends : EndsRun f rest
 
 split : (f : ℕ → Bool) (u : List ℕ) → Split f u
 unfolding every
@@ -95,14 +95,14 @@ split f (b ∷ u) = go (f b) refl (split f u)
     go true e r = record { front = b ∷ r .front; rest = r .rest; is = ap (λ (l : List ℕ). b ∷ l) (r .is); all = join e (r .all); ends = r .ends }
     go false e r = record { front = []; rest = b ∷ u; is = refl; all = refl; ends = e }
 
-keyword : (w : List ℕ) → (wordKind w ≡ 1 → ⊥) → Listed words (wordKind w) w
+keyword : (w : List ℕ) → (wordKind w ≡ 1 → ⊥) → Listed word-tokens (wordKind w) w
 unfolding wordKind
 keyword w h = go (same w (ascii "end")) refl (same w (ascii "rec")) refl (same w (ascii "int")) refl (same w (ascii "text")) refl (same w (ascii "flag")) refl h
   where
     go : (a : Bool) → same w (ascii "end") ≡ a → (b : Bool) → same w (ascii "rec") ≡ b → (c : Bool) → same w (ascii "int") ≡ c
         → (d : Bool) → same w (ascii "text") ≡ d → (f : Bool) → same w (ascii "flag") ≡ f
         → (_≡_ {A = ℕ} (cond a 101 (cond b 114 (cond c 105 (cond d 116 (cond f 102 1))))) 1 → ⊥)
-        → Listed words (cond a 101 (cond b 114 (cond c 105 (cond d 116 (cond f 102 1))))) w
+        → Listed word-tokens (cond a 101 (cond b 114 (cond c 105 (cond d 116 (cond f 102 1))))) w
     go true e b i c j d k f l h = inl (refl, same-is w _ e)
     go false e true i c j d k f l h = inr (inl (refl, same-is w _ i))
     go false e false i true j d k f l h = inr (inr (inl (refl, same-is w _ j)))
@@ -110,7 +110,7 @@ keyword w h = go (same w (ascii "end")) refl (same w (ascii "rec")) refl (same w
     go false e false i false j false k true l h = inr (inr (inr (inr (inl (refl, same-is w _ l)))))
     go false e false i false j false k false l h = absurd (h refl)
 
-nothing-more : (v : List ℕ) → Ends (λ b. false) v
+nothing-more : (v : List ℕ) → EndsRun (λ b. false) v
 nothing-more [] = tt
 nothing-more (c ∷ v) = refl
 
@@ -130,8 +130,8 @@ module _ (s : List ℕ) (p b : ℕ) (v : List ℕ) (e : drop p s ≡ b ∷ v) wh
     begin : {t : Tok} → Spells t (b ∷ m .front) f → Begins (b ∷ v)
     begin {t} i = record { t = t; w = b ∷ m .front; more = f; rest = m .rest; spells = i; ends = m .ends; is = ap (λ (l : List ℕ). b ∷ l) (m .is) }
 
-  lower-begins : letter-or-digit b ≡ true → (wordAt s p .kind ≡ 1 → ⊥) → Begins (b ∷ v)
-  unfolding wordAt
+  lower-begins : letter-or-digit b ≡ true → (word-token s p .kind ≡ 1 → ⊥) → Begins (b ∷ v)
+  unfolding word-token
   lower-begins l h = begin letter-or-digit m (a-word (keyword w (λ q. h (rw (size letter-or-digit m l, part-here s p w (m .rest) (taken letter-or-digit m)) q))))
     where
       m : Split letter-or-digit v
@@ -140,8 +140,8 @@ module _ (s : List ℕ) (p b : ℕ) (v : List ℕ) (e : drop p s ≡ b ∷ v) wh
       w : List ℕ
       w = b ∷ m .front
 
-  upper-begins : upper b ≡ true → letter-or-digit b ≡ true → (nameAt s p .kind ≡ 1 → ⊥) → Begins (b ∷ v)
-  unfolding nameAt
+  upper-begins : upper b ≡ true → letter-or-digit b ≡ true → (name-token s p .kind ≡ 1 → ⊥) → Begins (b ∷ v)
+  unfolding name-token
   upper-begins u l h = go (leb (length (b ∷ m .front)) 8) refl
     where
       m : Split letter-or-digit v
@@ -153,19 +153,19 @@ module _ (s : List ℕ) (p b : ℕ) (v : List ℕ) (e : drop p s ≡ b ∷ v) wh
           let z : p + length (b ∷ m .front) - p ≡ length (b ∷ m .front) = omega arith in
           absurd (h (rw (size letter-or-digit m l, z, f)))
 
-  digit-begins : digit b ≡ true → (numberAt s p p .kind ≡ 1 → ⊥) → Begins (b ∷ v)
-  unfolding numberAt numberKind
-  digit-begins d h = go (eqb b 48) refl (split digit v)
+  digit-begins : a-digit b ≡ true → (number-token s p p .kind ≡ 1 → ⊥) → Begins (b ∷ v)
+  unfolding number-token numberKind
+  digit-begins d h = go (eqb b 48) refl (split a-digit v)
     where
-      go : (c : Bool) → eqb b 48 ≡ c → Split digit v → Begins (b ∷ v)
-      go false f m = begin digit m (a-number (whole digit m d, eqb-false b 48 f))
+      go : (c : Bool) → eqb b 48 ≡ c → Split a-digit v → Begins (b ∷ v)
+      go false f m = begin a-digit m (a-number (whole a-digit m d, eqb-false b 48 f))
       go true f m = alone (m .front) refl
         where
           alone : (w : List ℕ) → m .front ≡ w → Begins (b ∷ v)
           alone [] g = record {
             t = number (record { minus = false; value = 0 });
             w = ascii "0";
-            more = digit;
+            more = a-digit;
             rest = m .rest;
             spells = a-zero;
             ends = m .ends;
@@ -175,20 +175,20 @@ module _ (s : List ℕ) (p b : ℕ) (v : List ℕ) (e : drop p s ≡ b ∷ v) wh
               let n : length (b ∷ m .front) ≡ suc (suc (length w)) = ap (λ (l : List ℕ). length (b ∷ l)) g in
               let z : p + length (b ∷ m .front) - p ≡ length (b ∷ m .front) = omega arith in
               absurd
-              (h (rw (size digit m d, z, ne-eqb (p + length (b ∷ m .front)) p (λ q. omega arith), byte-here s p b v e, f, ne-eqb (length (b ∷ m .front)) 1 (λ q. omega arith))))
+              (h (rw (size a-digit m d, z, ne-eqb (p + length (b ∷ m .front)) p (λ q. omega arith), byte-here s p b v e, f, ne-eqb (length (b ∷ m .front)) 1 (λ q. omega arith))))
 
-  minus-begins : b ≡ 45 → (numberAt s p (p + 1) .kind ≡ 1 → ⊥) → Begins (b ∷ v)
-  unfolding numberAt numberKind
-  minus-begins d h = go (split digit v)
+  minus-begins : b ≡ 45 → (number-token s p (p + 1) .kind ≡ 1 → ⊥) → Begins (b ∷ v)
+  unfolding number-token numberKind
+  minus-begins d h = go (split a-digit v)
     where
       n : drop (p + 1) s ≡ v
       n = next-here s p b v e
 
-      go : Split digit v → Begins (b ∷ v)
+      go : Split a-digit v → Begins (b ∷ v)
       go m = first (m .front) refl
         where
-          ended : runEnd digit s (p + 1) ≡ p + 1 + length (m .front)
-          ended = run-here s (p + 1) (m .front) (m .rest) (n ∙ m .is) digit (m .all) (m .ends)
+          ended : runEnd a-digit s (p + 1) ≡ p + 1 + length (m .front)
+          ended = run-here s (p + 1) (m .front) (m .rest) (n ∙ m .is) a-digit (m .all) (m .ends)
 
           first : (w : List ℕ) → m .front ≡ w → Begins (b ∷ v)
           first [] g =
@@ -203,9 +203,9 @@ module _ (s : List ℕ) (p b : ℕ) (v : List ℕ) (e : drop p s ≡ b ∷ v) wh
               lead false f = record {
                 t = number (record { minus = true; value = _ });
                 w = ascii "-" ++ (c ∷ w);
-                more = digit;
+                more = a-digit;
                 rest = m .rest;
-                spells = a-negative {w = c ∷ w} (subst (λ (l : List ℕ). every digit l ≡ true) g (m .all), eqb-false c 48 f);
+                spells = a-negative {w = c ∷ w} (subst (λ (l : List ℕ). every a-digit l ≡ true) g (m .all), eqb-false c 48 f);
                 ends = m .ends;
                 is = ap₂ _∷_ d is;
               }
@@ -214,8 +214,8 @@ module _ (s : List ℕ) (p b : ℕ) (v : List ℕ) (e : drop p s ≡ b ∷ v) wh
                   absurd
                   (h (rw (ended, ne-eqb (p + 1 + length (m .front)) (p + 1) (λ q. omega arith), byte-here s (p + 1) c (w ++ m .rest) (n ∙ is), f, ne-eqb (p + 1 + length (m .front) - p) 1 (λ q. omega arith))))
 
-  dot-begins : b ≡ 46 → (dotsAt s p .kind ≡ 1 → ⊥) → Begins (b ∷ v)
-  unfolding dotsAt every
+  dot-begins : b ≡ 46 → (dots-token s p .kind ≡ 1 → ⊥) → Begins (b ∷ v)
+  unfolding dots-token every
   dot-begins d h = go (split dot v)
     where
       go : Split dot v → Begins (b ∷ v)
@@ -307,9 +307,9 @@ listed-formed : (es : List (ℕ × String)) (k : ℕ) (w : List ℕ) → Each (�
 listed-formed es k w a l e = eqb-false k 1 (each-listed (λ k w. eqb k 1 ≡ false) es k w a l) (ap sign-in e)
 
 pub spells-formed : {t : Tok} {w : List ℕ} {more : ℕ → Bool} → Spells t w more → t ≡ sign 1 → ⊥
-spells-formed (a-sign {k} {w} l) e = listed-formed signs k w (refl, (refl, (refl, (refl, (refl, (refl, (refl, (refl, (refl, (refl, (refl, tt))))))))))) l e
-spells-formed (a-dot {k} {w} l) e = listed-formed dots k w (refl, (refl, tt)) l e
-spells-formed (a-word {k} {w} l) e = listed-formed words k w (refl, (refl, (refl, (refl, (refl, tt))))) l e
+spells-formed (a-sign {k} {w} l) e = listed-formed sign-tokens k w (refl, (refl, (refl, (refl, (refl, (refl, (refl, (refl, (refl, (refl, (refl, tt))))))))))) l e
+spells-formed (a-dot {k} {w} l) e = listed-formed dot-tokens k w (refl, (refl, tt)) l e
+spells-formed (a-word {k} {w} l) e = listed-formed word-tokens k w (refl, (refl, (refl, (refl, (refl, tt))))) l e
 spells-formed (a-name h) e = omega (arith, ap tag e)
 spells-formed a-zero e = omega (arith, ap tag e)
 spells-formed (a-number h) e = omega (arith, ap tag e)

@@ -17,7 +17,7 @@ use Rattle.text.specs.Token.{oneOf, packed, wordOf}
 use Rattle.text.specs.Number.{Signed, valueOf}
 use Rattle.text.specs.Grammar.{Ty, Tok, word, number, sign, printText}
 use Rattle.table.specs.Ascii.{ascii}
-use Rattle.spelling.specs.Spelling.{digit, dot, signs, dots, words, Listed, Digits, Spells, a-sign, a-dot, a-word, a-name, a-zero, a-number, a-negative, Spelt, ran-out, a-blank, a-token}
+use Rattle.spelling.specs.Spelling.{a-digit, dot, sign-tokens, dot-tokens, word-tokens, Listed, Digits, Spells, a-sign, a-dot, a-word, a-name, a-zero, a-number, a-negative, Spelt, ran-out, a-blank, a-token}
 use Rattle.spelling.specs.Speller.{trim, decimal, beside, bytes, spelling, spell, Writable, Spellable}
 use Rattle.spelling.specs.Theorems.{DecimalValue}
 use Rattle.spelling.proofs.Classes.{kinds, beside-listed}
@@ -44,7 +44,7 @@ zeros-packed (suc n) (b ∷ w) e =
     let p = both (eqb b 0) (every (λ x. eqb x 0) w) e in
     rw (eqb-true b 0 (p .0), zeros-packed n w (p .1)) (omega arith)
 
--- the rest of a legal label: a letter or digit and a rest, or zeros
+-- the rest of a legal label: a letter or a-digit and a rest, or zeros
 abbrev Rest : ℕ → List ℕ → Type 0
 Rest c r = ((eqb c 0 ≡ false) × (letter-or-digit c ≡ true) × (label-rest r ≡ true)) ⊎ ((eqb c 0 ≡ true) × Zeros (c ∷ r))
 
@@ -114,11 +114,11 @@ first-last : (u : List ℕ) (c : ℕ) → (getD u 0 48 ≡ 48 → ⊥) → getD 
 first-last [] c h e = h refl
 first-last (b ∷ u) c h e = h e
 
-small-digit : (n : ℕ) → n < 10 → digit (48 + n) ≡ true
+small-digit : (n : ℕ) → n < 10 → a-digit (48 + n) ≡ true
 small-digit n h = join (le-leb 48 (48 + n) (omega arith)) (le-leb (48 + n) 57 (omega arith))
 
 record Decimal (n : ℕ) (w : List ℕ) : Type 0 where
-  all : every digit w ≡ true
+  all : every a-digit w ≡ true
   value : valueOf 0 w ≡ n
   first : 0 < n → getD w 0 48 ≡ 48 → ⊥
 
@@ -138,7 +138,7 @@ decimal-is (suc fuel) n h = go (ltb n 10) refl (decimal-is fuel (n / 10))
         let d = ih (omega arith) in
         let w = decimal fuel (n / 10) in
         record {
-          all = every-last digit w (48 + n % 10) (d .all) (small-digit (n % 10) (omega arith));
+          all = every-last a-digit w (48 + n % 10) (d .all) (small-digit (n % 10) (omega arith));
           value = value-last w 0 (48 + n % 10) ∙ rw (d .value) (omega arith);
           first = λ p. first-last w (48 + n % 10) (d .first (omega arith));
         }
@@ -152,20 +152,20 @@ as-number [] n d h = absurd (d .first h refl)
 as-number (b ∷ w) n d h = (d .all, d .first h)
 
 number-spells : (m : Bool) (v : ℕ) → (m ≡ true → v ≡ 0 → ⊥)
-    → Spells (number (record { minus = m; value = v })) (cond m (ascii "-") [] ++ decimal (suc v) v) digit
+    → Spells (number (record { minus = m; value = v })) (cond m (ascii "-") [] ++ decimal (suc v) v) a-digit
 unfolding decimal
 number-spells true zero h = absurd (h refl refl)
 number-spells true (suc v) h =
     let d = decimal-is (suc (suc v)) (suc v) (omega arith) in
-    subst (λ (n : ℕ). Spells (number (record { minus = true; value = n })) (ascii "-" ++ decimal (suc (suc v)) (suc v)) digit) (d .value)
+    subst (λ (n : ℕ). Spells (number (record { minus = true; value = n })) (ascii "-" ++ decimal (suc (suc v)) (suc v)) a-digit) (d .value)
     (a-negative {w = decimal (suc (suc v)) (suc v)} (as-number (decimal (suc (suc v)) (suc v)) (suc v) d (omega arith)))
 number-spells false zero h = nought
   where
-    nought : Spells (number (record { minus = false; value = 0 })) (decimal 1 0) digit
+    nought : Spells (number (record { minus = false; value = 0 })) (decimal 1 0) a-digit
     nought = a-zero
 number-spells false (suc v) h =
     let d = decimal-is (suc (suc v)) (suc v) (omega arith) in
-    subst (λ (n : ℕ). Spells (number (record { minus = false; value = n })) (decimal (suc (suc v)) (suc v)) digit) (d .value)
+    subst (λ (n : ℕ). Spells (number (record { minus = false; value = n })) (decimal (suc (suc v)) (suc v)) a-digit) (d .value)
     (a-number {w = decimal (suc (suc v)) (suc v)} (as-number (decimal (suc (suc v)) (suc v)) (suc v) d (omega arith)))
 
 -- ---- tokens and texts
@@ -189,8 +189,8 @@ either-list (x ∷ es) fs k P e f g = go (eqb k (x .0)) refl e (λ e. either-lis
 fixed-spelled : (k : ℕ) → oneOf fixed k ≡ true → Spelled (sign k)
 unfolding letter-or-digit
 fixed-spelled k e =
-    either-list signs (dots ++ words) k P e (λ w l. ((λ b. false), a-sign l, refl))
-    (λ e. either-list dots words k P e (λ w l. (dot, a-dot l, refl)) (λ e. (letter-or-digit, a-word (beside-listed words k e), refl)))
+    either-list sign-tokens (dot-tokens ++ word-tokens) k P e (λ w l. ((λ b. false), a-sign l, refl))
+    (λ e. either-list dot-tokens word-tokens k P e (λ w l. (dot, a-dot l, refl)) (λ e. (letter-or-digit, a-word (beside-listed word-tokens k e), refl)))
   where
     P : List ℕ → Type 0
     P w = (more : ℕ → Bool) × Spells (sign k) w more × (more 32 ≡ false)
@@ -200,7 +200,7 @@ unfolding letter-or-digit
 word-spelled x h = (letter-or-digit, subst (λ (x′ : ℕ). Spells (word x′) (trim (labelOf x)) letter-or-digit) (h .1) (label-spells (labelOf x) (h .0)), refl)
 
 number-spelled : (n : Signed) → Writable (number n) → Spelled (number n)
-number-spelled n h = (digit, number-spells (n .minus) (n .value) h, refl)
+number-spelled n h = (a-digit, number-spells (n .minus) (n .value) h, refl)
 
 spelling-on : (t : Tok) (ts : List Tok) → Spelled t → Spelt (spelling ts) ts → Spelt (spelling (t ∷ ts)) (t ∷ ts)
 unfolding spelling

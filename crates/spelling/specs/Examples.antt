@@ -17,9 +17,9 @@ name x = wordOf (ascii x)
 abbrev plus : ℕ → Signed
 plus n = record { minus = false; value = n }
 
--- document 01's P, as a type
-abbrev pub P : Ty
-P =
+-- document 01's P-type, as a type
+abbrev pub P-type : Ty
+P-type =
     loop (name "X")
     (choice sends
     (also (name "Ask") (record { kind = int; low = plus 0; high = plus 100 } ∷ []) (choice receives (last (name "Ok") [] (var (name "X"))))
@@ -29,7 +29,7 @@ abbrev Nothing : List ℕ → Type 0
 Nothing s = (ts : List Tok) → Spelt s ts → ⊥
 
 pub record Examples : Type 0 where
-  pub protocol : Spelt (ascii "rec X.+{!Ask(int[0..100]).&{?Ok().X},!Quit().end}") (printText P)
+  pub protocol : Spelt (ascii "rec X.+{!Ask(int[0..100]).&{?Ok().X},!Quit().end}") (printText P-type)
   -- spaces and line feeds may stand before and after tokens; a tab may not
   pub blanks : Spelt (0x0A ∷ 0x20 ∷ ascii "end" ++ (0x0A ∷ [])) (printText stop)
   pub tab : Nothing (0x09 ∷ ascii "end")

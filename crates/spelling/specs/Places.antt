@@ -9,7 +9,7 @@ use lib.ListN.{length}
 use Rattle.text.specs.Token.{token}
 use Rattle.text.specs.Grammar.{Tok, word, number, sign}
 use Rattle.text.specs.declared.token.Token.{Token}
-use Rattle.spelling.specs.Spelling.{blank, Spells, Ends}
+use Rattle.spelling.specs.Spelling.{blank, Spells, EndsRun}
 use Rattle.text.specs.Kind as K
 
 -- the bytes begin with a token
@@ -19,7 +19,7 @@ pub record Begins (u : List ℕ) : Type 0 where
   pub more : ℕ → Bool
   pub rest : List ℕ
   pub spells : Spells t w more
-  pub ends : Ends more rest
+  pub ends : EndsRun more rest
   pub is : u ≡ w ++ rest
 
 abbrev pub kindIn : Tok → ℕ
@@ -30,7 +30,7 @@ kindIn (sign k) = k
 -- the bytes from the place p on: blanks and tokens, until the text runs out or a byte that is no blank begins nothing named
 pub data Placed : List ℕ → ℕ → List Token → Type 0 where
   ran-out : {p : ℕ} → Placed [] p (token K.ran-out p p ∷ [])
-  malformed : {b p : ℕ} {s : List ℕ} → blank b ≡ false → (Begins (b ∷ s) → ⊥) → Placed (b ∷ s) p (token K.bad p p ∷ [])
+  malformed : {b p : ℕ} {s : List ℕ} → blank b ≡ false → (Begins (b ∷ s) → ⊥) → Placed (b ∷ s) p (token K.malformed p p ∷ [])
   a-blank : {b p : ℕ} {s : List ℕ} {ks : List Token} → blank b ≡ true → Placed s (p + 1) ks → Placed (b ∷ s) p ks
   a-token : {t : Tok} {w s : List ℕ} {more : ℕ → Bool} {p : ℕ} {ks : List Token}
-      → Spells t w more → Ends more s → Placed s (p + length w) ks → Placed (w ++ s) p (token (kindIn t) p (p + length w) ∷ ks)
+      → Spells t w more → EndsRun more s → Placed s (p + length w) ks → Placed (w ++ s) p (token (kindIn t) p (p + length w) ∷ ks)

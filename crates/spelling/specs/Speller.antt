@@ -12,7 +12,7 @@ use Rattle.table.specs.View.{labelOf}
 use Rattle.text.specs.Token.{wordOf}
 use Rattle.text.specs.Grammar.{Field, Ty, stop, var, loop, choice, Br, last, also, Tok, word, number, sign, printText}
 use Rattle.table.specs.Ascii.{ascii}
-use Rattle.spelling.specs.Spelling.{signs, dots, words}
+use Rattle.spelling.specs.Spelling.{sign-tokens, dot-tokens, word-tokens}
 
 -- the bytes before the first 0x00
 unfoldable pub trim : List ℕ → List ℕ
@@ -32,7 +32,7 @@ beside (e ∷ es) k = cond (eqb k (e .0)) (ascii (e .1)) (beside es k)
 abbrev pub bytes : Tok → List ℕ
 bytes (word x) = trim (labelOf x)
 bytes (number n) = cond (n .minus) (ascii "-") [] ++ decimal (suc (n .value)) (n .value)
-bytes (sign k) = beside (signs ++ dots ++ words) k
+bytes (sign k) = beside (sign-tokens ++ dot-tokens ++ word-tokens) k
 
 unfoldable pub spelling : List Tok → List ℕ
 spelling [] = []

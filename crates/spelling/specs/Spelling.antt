@@ -20,8 +20,8 @@ use Rattle.text.specs.Kind as K
 -- ---- bytes: `upper` is A-Z, `letter-or-digit` A-Z, a-z, 0-9
 
 -- 0-9
-abbrev pub digit : ℕ → Bool
-digit b = leb 48 b && leb b 57
+abbrev pub a-digit : ℕ → Bool
+a-digit b = leb 48 b && leb b 57
 
 abbrev pub dot : ℕ → Bool
 dot b = eqb b 46
@@ -36,14 +36,14 @@ blank b = eqb b 0x20 || eqb b 0x0A
 abbrev own : String → ℕ × String
 own x = (K.of x, x)
 
-abbrev pub signs : List (ℕ × String)
-signs = map own ("+" ∷ "&" ∷ "{" ∷ "}" ∷ "," ∷ "!" ∷ "?" ∷ "(" ∷ ")" ∷ "[" ∷ "]" ∷ [])
+abbrev pub sign-tokens : List (ℕ × String)
+sign-tokens = map own ("+" ∷ "&" ∷ "{" ∷ "}" ∷ "," ∷ "!" ∷ "?" ∷ "(" ∷ ")" ∷ "[" ∷ "]" ∷ [])
 
-abbrev pub dots : List (ℕ × String)
-dots = own "." ∷ (K.dots, "..") ∷ []
+abbrev pub dot-tokens : List (ℕ × String)
+dot-tokens = own "." ∷ (K.dots, "..") ∷ []
 
-abbrev pub words : List (ℕ × String)
-words = map own ("end" ∷ "rec" ∷ "int" ∷ "text" ∷ "flag" ∷ [])
+abbrev pub word-tokens : List (ℕ × String)
+word-tokens = map own ("end" ∷ "rec" ∷ "int" ∷ "text" ∷ "flag" ∷ [])
 
 -- w is what stands beside k in a list
 abbrev pub Listed : List (ℕ × String) → ℕ → List ℕ → Type 0
@@ -58,28 +58,28 @@ Name (b ∷ w) = (upper b ≡ true) × (every letter-or-digit w ≡ true) × (le
 -- digits without a leading zero
 abbrev pub Digits : List ℕ → Type 0
 Digits [] = ⊥
-Digits (b ∷ w) = (every digit (b ∷ w) ≡ true) × (b ≡ 48 → ⊥)
+Digits (b ∷ w) = (every a-digit (b ∷ w) ≡ true) × (b ≡ 48 → ⊥)
 
--- a token, its bytes, and which bytes would go on with it: names and words (letters and digits), digits and dots take the longest run
+-- a token, its bytes, and which bytes would go on with it: names and word-tokens (letters and digits), digits and dot-tokens take the longest run
 pub data Spells : Tok → List ℕ → (ℕ → Bool) → Type 0 where
-  a-sign : {k : ℕ} {w : List ℕ} → Listed signs k w → Spells (sign k) w (λ b. false)
-  a-dot : {k : ℕ} {w : List ℕ} → Listed dots k w → Spells (sign k) w dot
-  a-word : {k : ℕ} {w : List ℕ} → Listed words k w → Spells (sign k) w letter-or-digit
+  a-sign : {k : ℕ} {w : List ℕ} → Listed sign-tokens k w → Spells (sign k) w (λ b. false)
+  a-dot : {k : ℕ} {w : List ℕ} → Listed dot-tokens k w → Spells (sign k) w dot
+  a-word : {k : ℕ} {w : List ℕ} → Listed word-tokens k w → Spells (sign k) w letter-or-digit
   a-name : {w : List ℕ} → Name w → Spells (word (wordOf w)) w letter-or-digit
-  a-zero : Spells (number (record { minus = false; value = 0 })) (ascii "0") digit
-  a-number : {w : List ℕ} → Digits w → Spells (number (record { minus = false; value = valueOf 0 w })) w digit
-  a-negative : {w : List ℕ} → Digits w → Spells (number (record { minus = true; value = valueOf 0 w })) (ascii "-" ++ w) digit
+  a-zero : Spells (number (record { minus = false; value = 0 })) (ascii "0") a-digit
+  a-number : {w : List ℕ} → Digits w → Spells (number (record { minus = false; value = valueOf 0 w })) w a-digit
+  a-negative : {w : List ℕ} → Digits w → Spells (number (record { minus = true; value = valueOf 0 w })) (ascii "-" ++ w) a-digit
 
 -- ---- a text
 
 -- the bytes that follow a token do not go on with it
-abbrev pub Ends : (ℕ → Bool) → List ℕ → Type 0
-Ends more [] = Unit {0}
-Ends more (b ∷ s) = more b ≡ false
+abbrev pub EndsRun : (ℕ → Bool) → List ℕ → Type 0
+EndsRun more [] = Unit {0}
+EndsRun more (b ∷ s) = more b ≡ false
 
 -- blanks and tokens in any order, and at last that the text ran out
 pub data Spelt : List ℕ → List Tok → Type 0 where
   ran-out : Spelt [] (sign K.ran-out ∷ [])
   a-blank : {b : ℕ} {s : List ℕ} {ts : List Tok} → blank b ≡ true → Spelt s ts → Spelt (b ∷ s) ts
   a-token : {t : Tok} {w s : List ℕ} {more : ℕ → Bool} {ts : List Tok}
-      → Spells t w more → Ends more s → Spelt s ts → Spelt (w ++ s) (t ∷ ts)
+      → Spells t w more → EndsRun more s → Spelt s ts → Spelt (w ++ s) (t ∷ ts)

@@ -13,7 +13,7 @@ use Rattle.text.specs.Number.{valueOf}
 use Rattle.text.specs.Grammar.{text-limit, Ty, Tok, sign, printText, tokOf, Writes, tableOf, Legal}
 use Rattle.text.specs.Building.{denied}
 use Rattle.text.specs.Filled.{Reading, came-out, filled, padded, written}
-use Rattle.text.specs.Reading.{start, run, reads}
+use Rattle.text.specs.Reading.{start, run-tokens, reads}
 use Rattle.text.specs.declared.token.Token.{Token}
 use Rattle.spelling.specs.Spelling.{Name, Spelt}
 use Rattle.spelling.specs.Places.{Placed}
@@ -26,7 +26,7 @@ use Rattle.text.specs.Kind as K
 -- no token is malformed
 abbrev pub WellFormed : List Tok → Type 0
 WellFormed [] = Unit {0}
-WellFormed (t ∷ ts) = (t ≡ sign K.bad → ⊥) × WellFormed ts
+WellFormed (t ∷ ts) = (t ≡ sign K.malformed → ⊥) × WellFormed ts
 
 -- A text spells tokens exactly when the scanner finds them in it and none of them is malformed.
 abbrev pub SpeltScanned : Type 0
@@ -65,7 +65,7 @@ abbrev pub ReadPlaced : Type 0
 ReadPlaced =
     (s : List ℕ) (r : Reading)
     → (reads s ≡ r)
-    ↔ ((ks : List Token) × Placed s 0 ks × (written (cond (leb (length s) text-limit) (run s start ks) (denied 1 0)) ≡ r))
+    ↔ ((ks : List Token) × Placed s 0 ks × (written (cond (leb (length s) text-limit) (run-tokens s start ks) (denied 1 0)) ≡ r))
 
 -- ---- the speller
 

@@ -128,9 +128,9 @@ abbrev pub turned : Words → Words
 turned t = turnedTo 32 t
 
 -- 0 and the dual; of a table that is not sound 9 and the empty table
-abbrev pub answered : Words → Bool → Turned
-answered t true = record { question = 0; table = turned t }
-answered t false = record { question = 9; table = emptyTable }
+abbrev pub dual-answer : Words → Bool → Turned
+dual-answer t true = record { question = 0; table = turned t }
+dual-answer t false = record { question = 9; table = emptyTable }
 
 unfoldable pub dualOf : Words → Turned
-dualOf t = answered t (soundOf t)
+dualOf t = dual-answer t (soundOf t)

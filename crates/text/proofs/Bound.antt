@@ -9,7 +9,7 @@ use native.Mathlib.Omega.{arith}
 use lib.Dec.{eqb}
 use lib.ListN.{length, set, getD, length-set}
 use lib.Seq.{getD-set-same, getD-set-other}
-use Rattle.text.specs.Recursive.{Env, boundIn, nameIn, Room, emptyEnv, bindAt, bind, findIn, find}
+use Rattle.text.specs.Recursive.{Env, boundIn, nameIn, Room, emptyEnv, bindAt, bind-in, findIn, find}
 
 module _ (e : Env) (i x n : ℕ) (room : i < 16) (long : length e ≡ 49) where
   high : ℕ
@@ -83,16 +83,16 @@ module _ (e : Env) (i x n : ℕ) (room : i < 16) (long : length e ≡ 49) where
       rw (stays (17 + j) (λ z. omega arith) (λ z. omega arith) (λ z. omega arith) (λ z. omega arith), stays (33 + j) (λ z. omega arith) (λ z. omega arith) (λ z. omega arith) (λ z. omega arith), stays (1 + j) (λ z. omega arith) (λ z. omega arith) (λ z. omega arith) (λ z. omega arith), below j y (le-of-lt h))
 
 module _ (e : Env) (x n : ℕ) (room : boundIn e < 16) (long : length e ≡ 49) where
-  bind-long : length (bind e x n) ≡ 49
-  unfolding bind
+  bind-long : length (bind-in e x n) ≡ 49
+  unfolding bind-in
   bind-long = at-long e (boundIn e) x n room long
 
-  bind-count : boundIn (bind e x n) ≡ boundIn e + 1
-  unfolding bind
+  bind-count : boundIn (bind-in e x n) ≡ boundIn e + 1
+  unfolding bind-in
   bind-count = at-count e (boundIn e) x n room long
 
-  pub bind-find : (y : ℕ) → find (bind e x n) y ≡ cond (eqb x y) (some n) (find e y)
-  unfolding bind findIn
+  pub bind-find : (y : ℕ) → find (bind-in e x n) y ≡ cond (eqb x y) (some n) (find e y)
+  unfolding bind-in findIn
   bind-find y =
       rw (at-count e (boundIn e) x n room long, add-one (boundIn e), at-name e (boundIn e) x n room long, at-state e (boundIn e) x n room long, below e (boundIn e) x n room long (boundIn e) y (omega arith))
 
@@ -100,7 +100,7 @@ pub room-empty : Room emptyEnv 16
 unfolding emptyEnv
 room-empty = record { long = refl; count = omega arith }
 
-pub room-bind : (e : Env) (x n d : ℕ) → (d ≡ 0 → ⊥) → Room e d → Room (bind e x n) (d - 1)
+pub room-bind : (e : Env) (x n d : ℕ) → (d ≡ 0 → ⊥) → Room e d → Room (bind-in e x n) (d - 1)
 room-bind e x n d z r =
     let c = r .count in
     let p = pos-of-ne-zero z in

@@ -9,8 +9,8 @@ use lib.Dec.{eqb, ltb}
 use lib.ListN.{length, getD}
 use borrow.Author.Tests.{eq-eqb, eqb-true, eqb-false, lt-leb, ltb-true, ltb-false, lt-ltb}
 use Rattle.table.proofs.Lists.{both, never}
-use Rattle.text.specs.Token.{oneOf, signs, isSpace, isDot, classOf, runEnd, token, dotsAt, beginAt, tokenAt}
-use Rattle.text.specs.Recursive.{step, unexpectedAt, passed, expectAt, isAt, next, nextOf, nextAt}
+use Rattle.text.specs.Token.{oneOf, signs, isSpace, isDot, classOf, runEnd, token, dots-token, beginAt, tokenAt}
+use Rattle.text.specs.Recursive.{step, unexpectedAt, passed, expectAt, isAt, next-token, nextOf, nextAt}
 use Rattle.text.specs.declared.token.Token.{Token}
 use Rattle.text.specs.declared.step.Next.{Next}
 use Rattle.text.specs.declared.step.Step.{Step}
@@ -49,20 +49,20 @@ module _ (s : List ℕ) where
       go true h e = run-off isDot s p (ltb-true _ _ h) e
       go false h e = run-out isDot s p (ltb-false _ _ h)
 
-  dots-begin : (p : ℕ) → isAt s p 46 ≡ true → tokenAt s p ≡ dotsAt s p
+  dots-begin : (p : ℕ) → isAt s p 46 ≡ true → tokenAt s p ≡ dots-token s p
   unfolding beginAt classOf
   dots-begin p e =
       let x = stands p 46 e in
       begins p (x .0) (ap isSpace (x .1)) ∙ ap (λ b. beginAt s p (classOf b)) (x .1)
 
   dot-here : (p : ℕ) → isAt s p 46 ≡ true → isAt s (p + 1) 46 ≡ false → tokenAt s p ≡ token 46 p (p + 1)
-  unfolding dotsAt
+  unfolding dots-token
   dot-here p e f =
       let n : p + 1 - p ≡ 1 = omega arith in
       dots-begin p e ∙ rw (dots-on p e, dots-off (p + 1) f, n)
 
   dots-here : (p : ℕ) → isAt s p 46 ≡ true → isAt s (p + 1) 46 ≡ true → isAt s (p + 2) 46 ≡ false → tokenAt s p ≡ token 58 p (p + 2)
-  unfolding dotsAt
+  unfolding dots-token
   dots-here p e f g =
       let n : p + 2 - p ≡ 2 = omega arith in
       let m : p + 1 + 1 ≡ p + 2 = omega arith in
@@ -82,12 +82,12 @@ module _ (s : List ℕ) where
   unfolding expectAt passed
   dots-passed p e f g = rw (dots-here p e f g)
 
-  pub last-passed : (p b : ℕ) → isAt s p b ≡ true → oneOf signs b ≡ true → next 0 (p + 1) false ≡ nextAt s p b
+  pub last-passed : (p b : ℕ) → isAt s p b ≡ true → oneOf signs b ≡ true → next-token 0 (p + 1) false ≡ nextAt s p b
   unfolding nextAt nextOf
   last-passed p b e g = rw (sign-here p b e g, eq-eqb b b refl)
 
   -- a comma, where the sign that closes the list does not stand
-  pub comma-passed : (p b : ℕ) → isAt s p b ≡ false → isAt s p 44 ≡ true → next 0 (p + 1) true ≡ nextAt s p b
+  pub comma-passed : (p b : ℕ) → isAt s p b ≡ false → isAt s p 44 ≡ true → next-token 0 (p + 1) true ≡ nextAt s p b
   unfolding nextAt nextOf
   comma-passed p b e f =
       let x = stands p 44 f in
@@ -129,7 +129,7 @@ module _ (s : List ℕ) where
 
     module _ (r : Next) (e : r ≡ nextAt s q n) where
       answer : Bool → Bool → Next
-      answer t u = cond t (next 0 (k .end) false) (cond u (next 0 (k .end) true) (next (unexpectedAt k .question) (unexpectedAt k .at) false))
+      answer t u = cond t (next-token 0 (k .end) false) (cond u (next-token 0 (k .end) true) (next-token (unexpectedAt k .question) (unexpectedAt k .at) false))
 
       answered : r ≡ answer (eqb (k .kind) n) (eqb (k .kind) 44)
       unfolding answer nextAt nextOf k

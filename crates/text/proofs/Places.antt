@@ -12,7 +12,7 @@ use Rattle.table.specs.Lists.{first-no}
 use Rattle.text.proofs.Asked.{asked}
 use Rattle.text.specs.Building.{denied}
 use Rattle.text.specs.Token.{tokenAt, tokensFrom, tokens}
-use Rattle.text.specs.Reading.{State, questions, taken, run, start, answered, reads}
+use Rattle.text.specs.Reading.{State, questions, taken, run-tokens, start, built, reads}
 use Rattle.text.specs.declared.token.Token.{Token}
 use Rattle.text.specs.Filled.{Reading}
 use Rattle.text.proofs.Span.{token-spans}
@@ -21,18 +21,18 @@ abbrev Small : List (ℕ × Bool) → Type 0
 Small [] = Unit {0}
 Small (q ∷ qs) = (q .0 ≤ 8) × Small qs
 
-place-within : (n : ℕ) (s : List ℕ) (p : ℕ) (st : State) → run s st (tokensFrom n s p) .at ≤ length s
-unfolding run tokensFrom denied
+place-within : (n : ℕ) (s : List ℕ) (p : ℕ) (st : State) → run-tokens s st (tokensFrom n s p) .at ≤ length s
+unfolding run-tokens tokensFrom denied
 place-within zero s p st = zero-le
 place-within (suc n) s p st = go (eqb (asked s st (tokenAt s p)) 0) (place-within n s (tokenAt s p .end) (taken s st (tokenAt s p)))
   where
-    on : (b : Bool) → run s (taken s st (tokenAt s p)) (tokensFrom n s (tokenAt s p .end)) .at ≤ length s
-        → run s (taken s st (tokenAt s p)) (cond b [] (tokensFrom n s (tokenAt s p .end))) .at ≤ length s
+    on : (b : Bool) → run-tokens s (taken s st (tokenAt s p)) (tokensFrom n s (tokenAt s p .end)) .at ≤ length s
+        → run-tokens s (taken s st (tokenAt s p)) (cond b [] (tokensFrom n s (tokenAt s p .end))) .at ≤ length s
     on true h = zero-le
     on false h = h
 
-    go : (b : Bool) → run s (taken s st (tokenAt s p)) (tokensFrom n s (tokenAt s p .end)) .at ≤ length s
-        → cond b (run s (taken s st (tokenAt s p)) (cond (eqb (tokenAt s p .kind) 0) [] (tokensFrom n s (tokenAt s p .end)))) (denied (asked s st (tokenAt s p)) (tokenAt s p .start)) .at
+    go : (b : Bool) → run-tokens s (taken s st (tokenAt s p)) (tokensFrom n s (tokenAt s p .end)) .at ≤ length s
+        → cond b (run-tokens s (taken s st (tokenAt s p)) (cond (eqb (tokenAt s p .kind) 0) [] (tokensFrom n s (tokenAt s p .end)))) (denied (asked s st (tokenAt s p)) (tokenAt s p .start)) .at
         ≤ length s
     go true h = on (eqb (tokenAt s p .kind) 0) h
     go false h = let w = token-spans s p in omega (arith, w .forward, w .inside)
@@ -47,28 +47,28 @@ first-small (q ∷ qs) h = go (q .1) (first-small qs (h .1))
     go true l = l
     go false l = h .0
 
-run-small : (s : List ℕ) (st : State) (ks : List Token) → run s st ks .question ≤ 8
-unfolding run denied first-no questions
+run-small : (s : List ℕ) (st : State) (ks : List Token) → run-tokens s st ks .question ≤ 8
+unfolding run-tokens denied first-no questions
 run-small s st [] = zero-le
 run-small s st (k ∷ ks) = go (eqb (asked s st k) 0) (run-small s (taken s st k) ks)
   where
-    go : (b : Bool) → run s (taken s st k) ks .question ≤ 8 → cond b (run s (taken s st k) ks) (denied (asked s st k) (k .start)) .question ≤ 8
+    go : (b : Bool) → run-tokens s (taken s st k) ks .question ≤ 8 → cond b (run-tokens s (taken s st k) ks) (denied (asked s st k) (k .start)) .question ≤ 8
     go true l = l
     go false l = first-small (questions s st k) (omega arith, (omega arith, (omega arith, (omega arith, (omega arith, (omega arith, (omega arith, tt)))))))
 
-question-small : (s : List ℕ) → answered s .question ≤ 8
-unfolding answered denied
+question-small : (s : List ℕ) → built s .question ≤ 8
+unfolding built denied
 question-small s = go (leb (length s) 8192)
   where
-    go : (b : Bool) → cond b (run s start (tokens s)) (denied 1 0) .question ≤ 8
+    go : (b : Bool) → cond b (run-tokens s start (tokens s)) (denied 1 0) .question ≤ 8
     go true = run-small s start (tokens s)
     go false = omega arith
 
-pub place-small : (s : List ℕ) → answered s .at ≤ 8192
-unfolding answered tokens denied
+pub place-small : (s : List ℕ) → built s .at ≤ 8192
+unfolding built tokens denied
 place-small s = go (leb (length s) 8192) refl
   where
-    go : (b : Bool) → leb (length s) 8192 ≡ b → cond b (run s start (tokens s)) (denied 1 0) .at ≤ 8192
+    go : (b : Bool) → leb (length s) 8192 ≡ b → cond b (run-tokens s start (tokens s)) (denied 1 0) .at ≤ 8192
     go true e = omega (arith, place-within (suc (length s)) s 0 start, leb-true (length s) 8192 e)
     go false e = zero-le
 
@@ -77,5 +77,5 @@ pub small : (s : List ℕ) (r : Reading) → r ≡ reads s → (r .question < 65
 unfolding reads
 small s r e = rw e (go (question-small s) (place-small s))
   where
-    go : answered s .question ≤ 8 → answered s .at ≤ 8192 → (answered s .question < 65536) × (answered s .at < 65536)
+    go : built s .question ≤ 8 → built s .at ≤ 8192 → (built s .question < 65536) × (built s .at < 65536)
     go q p = (omega arith, omega arith)

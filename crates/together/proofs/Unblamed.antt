@@ -18,7 +18,7 @@ use Rattle.message.specs.Rules.{Rules, table-rules, Said, turn, next, leads, le
 use Rattle.message.proofs.Judging.{none-some, some-eq}
 use Rattle.monitor.specs.Step.{fresh, Told, refused, blamed, forwarded, Outcome, outcome}
 use Rattle.monitor.proofs.Demand.{or-else, blamed-append, forwarded-append, leads-more, next-in-turn, demand-two, answered}
-use Rattle.monitor.specs.Conversation.{Sent, Event, event, conversation, said-by, is-forwarded, forwarded-ones, blamed-else, blamed-first, Judgeable, Met, Watched, Answer}
+use Rattle.monitor.specs.Conversation.{Sent, Event, event, conversation, said-by, is-forwarded, forwarded-ones, blamed-else, blamed-first, Judgeable, Met, WatchedTable, Reply}
 use Rattle.fit.specs.Machine.{Standing, running, device-blamed, jammed, Machine, Move, moves, Effect, nothing, forward, stop, from-device, from-host, while-running, arrived, fresh-machine, by-side, effect, does, after, move, play, run, bad, Safe}
 use Rattle.together.specs.Unblamed.{FitsUnblamed, FitsUnanswered}
 
@@ -335,7 +335,7 @@ module _ (D : Type 0) (d : Rules D) (p : Words) (safe : Safe d (table-rules (vie
 pub fits-unblamed : FitsUnblamed
 fits-unblamed D d p sound safe sent keeps = record { never = f .spared; followed = (f .here, f .followed) }
   where
-    w : Watched p sent
+    w : WatchedTable p sent
     w = demand-two p sound sent
 
     f : Following D d p safe (conversation p sent)
@@ -347,11 +347,11 @@ unfolding outcome blamed-first blamed-else
 fits-unanswered D d p sound safe answers kept keeps earlier a later q r g b = fits-unblamed D d p sound safe sent keeps .never first
   where
     sent : List Sent
-    sent = map (λ (a : Answer). a .sent) answers
+    sent = map (λ (a : Reply). a .sent) answers
 
-    x : Fellow (λ (a : Answer). outcome (a .given) (a .output)) (λ (e : Event). e .done) a (conversation p sent)
-    x = fellow (λ (a : Answer). outcome (a .given) (a .output)) (λ (e : Event). e .done) earlier a later (conversation p sent)
-        (ap (map (λ (a : Answer). outcome (a .given) (a .output))) (sym q) ∙ answered p answers kept)
+    x : Fellow (λ (a : Reply). outcome (a .given) (a .output)) (λ (e : Event). e .done) a (conversation p sent)
+    x = fellow (λ (a : Reply). outcome (a .given) (a .output)) (λ (e : Event). e .done) earlier a later (conversation p sent)
+        (ap (map (λ (a : Reply). outcome (a .given) (a .output))) (sym q) ∙ answered p answers kept)
 
     verdict : x .its .done .verdict ≡ blamed Device r g
     verdict = sym (ap (λ (o : Outcome). o .verdict) (x .same)) ∙ b

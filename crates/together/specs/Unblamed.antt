@@ -9,7 +9,7 @@ use Rattle.table.specs.View.{Words, view, soundOf}
 use Rattle.table.specs.declared.Party.the-variants.{Device}
 use Rattle.message.specs.Rules.{Rules, table-rules, next, led}
 use Rattle.monitor.specs.Step.{fresh, told, blamed}
-use Rattle.monitor.specs.Conversation.{Sent, Event, conversation, said-by, forwarded-ones, blamed-first, Judgeable, Answer, Kept}
+use Rattle.monitor.specs.Conversation.{Sent, Event, conversation, said-by, forwarded-ones, blamed-first, Judgeable, Reply, Kept}
 use Rattle.fit.specs.Machine.{Safe}
 
 module _ {D : Type 0} (d : Rules D) (p : Words) where
@@ -28,9 +28,9 @@ module _ {D : Type 0} (d : Rules D) (p : Words) where
     pub followed : (x : D) × (led d (forwarded-ones (conversation p sent)) ≡ some x)
 
 -- no answer blames the device
-abbrev pub NeverAnswered : List Answer → Type 0
+abbrev pub NeverAnswered : List Reply → Type 0
 NeverAnswered answers =
-    (earlier : List Answer) (a : Answer) (later : List Answer) → answers ≡ earlier ++ (a ∷ later)
+    (earlier : List Reply) (a : Reply) (later : List Reply) → answers ≡ earlier ++ (a ∷ later)
     → (r : ℕ) (f : Option ℕ) → told (a .given .verdict) ≡ blamed Device r f → ⊥
 
 -- where no list of moves on the machine ends badly
@@ -43,4 +43,4 @@ FitsUnblamed =
 abbrev pub FitsUnanswered : Type 1
 FitsUnanswered =
     (D : Type 0) (d : Rules D) (p : Words) → soundOf p ≡ true → Safe d (table-rules (view p))
-    → (answers : List Answer) → Kept p fresh answers → Keeps d p (map (λ (a : Answer). a .sent) answers) → NeverAnswered answers
+    → (answers : List Reply) → Kept p fresh answers → Keeps d p (map (λ (a : Reply). a .sent) answers) → NeverAnswered answers
