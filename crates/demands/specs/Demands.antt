@@ -7,7 +7,7 @@ use mathlib.Core.Option.{Option}
 use Prim.Native.Nat.{ℕ, _≤_}
 use lib.ListN.{length}
 use Rattle.table.specs.View.{view}
-use Rattle.text.specs.Grammar.{text-limit, Ty, printText, Legal}
+use Rattle.text.specs.Grammar.{text-limit, Ty, print-text, Legal}
 use Rattle.text.specs.Reading.{reads}
 use Rattle.spelling.specs.Spelling.{Spelt}
 use Rattle.types.specs.Types.{type-rules}
@@ -19,7 +19,7 @@ use Rattle.summary.specs.Report.{fit, no-fit, Reported}
 -- s is a text of the type t: at most 8,192 bytes that spell t, and t is legal
 pub record TextOf (s : List ℕ) (t : Ty) : Type 0 where
   pub short : length s ≤ text-limit
-  pub spelt : Spelt s (printText t)
+  pub spelt : Spelt s (print-text t)
   pub legal : Legal t
 
 -- a text is read exactly when it is one of some type (into which table: spelling/specs/Theorems.antt, ReadExactly), and of one type only

@@ -10,15 +10,15 @@ use lib.ListN.{length, getD, take}
 use lib.Dec.{leb, ltb, eqb}
 use borrow.Author.Tests.{ltb-true, lt-ltb, leb-true, le-leb, eqb-true, eq-eqb}
 use Rattle.table.specs.Table.{legal-label, legal-field, within-kind, origin, is-party, speaker}
-use Rattle.table.specs.View.{branchesOf, ownerAt, targetAt, countAt, wordAt, kindAt, lowAt, highAt, labelOf, sortOf, view, soundOf}
-use Rattle.table.specs.Scans.{legalAt, Word}
+use Rattle.table.specs.View.{branches-of, owner-at, target-at, count-at, word-at, kind-at, low-at, high-at, label-of, sort-of, view, sound-of}
+use Rattle.table.specs.Scans.{legal-at, Word}
 use Rattle.table.proofs.Lists.{both, join}
 use Rattle.table.proofs.Facts.{Facts, sound-facts}
 use Rattle.message.specs.Message.{number-at, count-of, announced, legal-value, exact, refusal, well-formed, label-word}
 use Rattle.message.specs.Judge.{judge}
 use Rattle.message.proofs.Reading.{value-at, label-of-word, Whole, parts-whole, well-formed-exactly}
 use Rattle.table.specs.declared.Party.{Party}
-use Rattle.monitor.specs.Leaves.{named, First, Carried, Straight}
+use Rattle.monitor.specs.Leaves.{branch-named, First, Carried, Straight}
 use Rattle.monitor.proofs.Asking.{all-well}
 use Rattle.monitor.proofs.ByPlaces.{allowed-here}
 
@@ -44,46 +44,46 @@ module _ (l h n : ℕ) (a : l ≤ n) (b : n ≤ h) where
   held-legal (suc (suc (suc k))) e = absurd (false≢true e)
 
 -- field f of a message against place k of the table's
-pub value-legal : (t message : List ℕ) (k f n : ℕ) → n ≡ number-at message (9 + count-of message + 4 * f) → legalAt t k ≡ true
-    → getD message (9 + f) 0 ≡ kindAt t k → lowAt t k ≤ n → n ≤ highAt t k → legal-value (value-at message f) ≡ true
+pub value-legal : (t message : List ℕ) (k f n : ℕ) → n ≡ number-at message (9 + count-of message + 4 * f) → legal-at t k ≡ true
+    → getD message (9 + f) 0 ≡ kind-at t k → low-at t k ≤ n → n ≤ high-at t k → legal-value (value-at message f) ≡ true
 unfolding legal-value
 value-legal t message k f n e legal same a b =
     ap (λ x. within-kind x (number-at message (9 + count-of message + 4 * f))) same
-    ∙ ap (within-kind (kindAt t k)) (sym e)
-    ∙ held-legal (lowAt t k) (highAt t k) n a b (kindAt t k) legal
+    ∙ ap (within-kind (kind-at t k)) (sym e)
+    ∙ held-legal (low-at t k) (high-at t k) n a b (kind-at t k) legal
 
 -- ---- the straight way
 
-module _ (t : List ℕ) (sound : soundOf t ≡ true) (message : List ℕ) (small : (k : ℕ) → getD message k 0 < 256) (nine : 9 ≤ length message)
-    (i r : ℕ) (first : First (named t i (label-word message)) (branchesOf t) r) (l : r < branchesOf t)
-    (e : getD message 8 0 ≡ countAt t r) (arrays : 9 + 5 * countAt t r ≤ length message) where
+module _ (t : List ℕ) (sound : sound-of t ≡ true) (message : List ℕ) (small : (k : ℕ) → getD message k 0 < 256) (nine : 9 ≤ length message)
+    (i r : ℕ) (first : First (branch-named t i (label-word message)) (branches-of t) r) (l : r < branches-of t)
+    (e : getD message 8 0 ≡ count-at t r) (arrays : 9 + 5 * count-at t r ≤ length message) where
   facts : Facts t
   facts = sound-facts t sound
 
   -- the label is a branch's, and so it is legal
   label-legal : legal-label (take 8 message) ≡ true
-  unfolding named
+  unfolding branch-named
   label-legal =
-      let w = eqb-true (wordAt t r) (label-word message) (both (eqb (wordAt t r) (label-word message)) (eqb (ownerAt t r) i) (first .there l) .0) in
-      ap legal-label (sym (ap labelOf w ∙ label-of-word message (omega arith) small)) ∙ facts .labels r l
+      let w = eqb-true (word-at t r) (label-word message) (both (eqb (word-at t r) (label-word message)) (eqb (owner-at t r) i) (first .there l) .0) in
+      ap legal-label (sym (ap label-of w ∙ label-of-word message (omega arith) small)) ∙ facts .labels r l
 
   pub whole-there : Whole message
   unfolding count-of
   whole-there = record { nine = nine; label = label-legal; few = omega (arith, e, facts .counts r l); arrays = omega (arith, e, arrays) }
 
-  module _ (texts : ℕ) (c : Carried t message (4 * r) (countAt t r) texts) (exactly : length message ≡ 9 + 5 * countAt t r + texts) where
+  module _ (texts : ℕ) (c : Carried t message (4 * r) (count-at t r) texts) (exactly : length message ≡ 9 + 5 * count-at t r + texts) where
     well-formed-there : refusal message ≡ 0
     unfolding well-formed exact announced count-of
     well-formed-there =
         well-formed-exactly message .0
         (join (join (parts-whole message whole-there) (c .legal)) (eq-eqb (length message) (announced message) (omega (arith, exactly, e, c .texts-are))))
 
-    pub straight : (sort : ℕ) (side : Party) (room : ℕ) → is-party side (speaker (sortOf sort)) ≡ true → length message ≤ room
-        → ((k : ℕ) → k < r → ownerAt t k ≡ i → Word (wordAt t k))
-        → Straight t i sort side message room (targetAt t r)
+    pub straight : (sort : ℕ) (side : Party) (room : ℕ) → is-party side (speaker (sort-of sort)) ≡ true → length message ≤ room
+        → ((k : ℕ) → k < r → owner-at t k ≡ i → Word (word-at t k))
+        → Straight t i sort side message room (target-at t r)
     unfolding judge view
     straight sort side room turn fits words = record {
-      asked = all-well (sortOf sort) side message room turn well-formed-there fits;
-      judged = allowed-here t (branchesOf t) i message whole-there small r first words l e (c .kinds) (countAt t r)
-          (record { within = le-refl (countAt t r); before = λ k h. ap not (c .numbers k h); there = λ h. absurd (omega arith) }) (le-refl (countAt t r));
+      asked = all-well (sort-of sort) side message room turn well-formed-there fits;
+      judged = allowed-here t (branches-of t) i message whole-there small r first words l e (c .kinds) (count-at t r)
+          (record { within = le-refl (count-at t r); before = λ k h. ap not (c .numbers k h); there = λ h. absurd (omega arith) }) (le-refl (count-at t r));
     }

@@ -3,7 +3,7 @@
 ghost use mathlib.Core.Path.{_≡_};
 ghost use mathlib.Core.Bool.{true};
 ghost use Prim.Native.Nat.{_<_};
-ghost use Rattle.table.specs.View.{soundOf};
+ghost use Rattle.table.specs.View.{sound-of};
 ghost use Rattle.monitor.specs.Leaves.{Facing, Carried, Straight};
 use super::ask;
 use super::judge;
@@ -12,7 +12,7 @@ use table::Table;
 
 // Where a message leads that gets a yes to 12 to 16 and is allowed; 32 for any other.
 pub fn leads_to(t: &Table, position: u8, sort: u32, side: Party, message: &[u8], room: usize) -> u8
-    requires { ⌜ soundOf (now t) ≡ true ⌝ }
+    requires { ⌜ sound-of (now t) ≡ true ⌝ }
     ensures { λ r. ⌜ (r < 32 → Straight (now (t .entry)) position sort side (now (message .entry)) room r) ⌝ }
 {
     if !ask::has_turn(side, sort) {

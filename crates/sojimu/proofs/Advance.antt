@@ -12,32 +12,32 @@ use Rattle.monitor.specs.declared.Standing.the-variants.{Running, DeviceBlamed,
 use Rattle.monitor.specs.declared.State.{State}
 use Rattle.monitor.specs.Step.{Outcome, refusing, blaming, forwarding, stepping}
 use Rattle.monitor.proofs.Asking.{Way, refuses, forwards, blames, way}
-use Rattle.sojimu.specs.Codes.{sideOf, partyCode, standingCode, standingOf, stateOf, stateBytes, verdictCodes}
+use Rattle.sojimu.specs.Codes.{code-side, party-code, standing-code, standing-of, state-of, state-bytes, verdict-codes}
 use Rattle.sojimu.specs.Calls.{stepping-as, bytes-after, crossing, step-codes}
 
-party-same : (side : Party) → sideOf (partyCode side) ≡ some side
+party-same : (side : Party) → code-side (party-code side) ≡ some side
 party-same Device = refl
 party-same Host = refl
 
-standing-same : (x : Standing) → standingOf (standingCode x) ≡ x
+standing-same : (x : Standing) → standing-of (standing-code x) ≡ x
 standing-same Running = refl
 standing-same DeviceBlamed = refl
 standing-same HostBlamed = refl
 
-state-same : (s : State) → stateOf (s .position) (standingCode (s .standing)) ≡ s
+state-same : (s : State) → state-of (s .position) (standing-code (s .standing)) ≡ s
 state-same s = ap (λ (x : Standing). let r : State = record { position = s .position; standing = x } in r) (standing-same (s .standing))
 
 module _ (t : Words) (s : State) (side : Party) (message out : List ℕ) where
   -- a refusal leaves the state as it was, so its bytes are those of the state after it, too
-  bytes-same : (r : Outcome) → Way t s side message out r → bytes-after (r .verdict) (r .state) (stateBytes s) ≡ stateBytes (r .state)
+  bytes-same : (r : Outcome) → Way t s side message out r → bytes-after (r .verdict) (r .state) (state-bytes s) ≡ state-bytes (r .state)
   unfolding bytes-after refusing blaming forwarding
   bytes-same r (refuses q e n) = refl
   bytes-same r (forwards e j h) = refl
   bytes-same r (blames e n f h) = refl
 
-  pub codes-step : step-codes t (stateBytes s) (partyCode side) message out
-      ≡ (verdictCodes (stepping t s side message out .verdict), stateBytes (stepping t s side message out .state), stepping t s side message out .output)
+  pub codes-step : step-codes t (state-bytes s) (party-code side) message out
+      ≡ (verdict-codes (stepping t s side message out .verdict), state-bytes (stepping t s side message out .state), stepping t s side message out .output)
   unfolding step-codes crossing stepping-as
   codes-step =
       rw (party-same side, state-same s)
-      (ap (λ (b : List ℕ). (verdictCodes (stepping t s side message out .verdict), b, stepping t s side message out .output)) (bytes-same (stepping t s side message out) (way t s side message out)))
+      (ap (λ (b : List ℕ). (verdict-codes (stepping t s side message out .verdict), b, stepping t s side message out .output)) (bytes-same (stepping t s side message out) (way t s side message out)))

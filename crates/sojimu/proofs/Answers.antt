@@ -16,7 +16,7 @@ use Rattle.fit.specs.Machine.{Move, moves}
 use Rattle.fit.specs.Fit.{last-count, field-named}
 use Rattle.fit.specs.Answer.{Answer, refused, fits, fails, Failed, Answered}
 use Rattle.sojimu.specs.declared.fits.Fit.{Fit}
-use Rattle.sojimu.specs.Codes.{highCode, fitCodes}
+use Rattle.sojimu.specs.Codes.{high-code, fit-codes}
 
 few : (bytes : List ℕ) → well-formed bytes ≡ true → count-of bytes ≤ 4
 unfolding well-formed
@@ -40,13 +40,13 @@ module _ (d p : Words) (before : List ℕ) where
       let h = ltb-true f _ (x .failing .field-is-there) in
       omega (arith, l, h)
 
-  same-high : (a b : List ℕ) (K L : ℕ) (h i : Option ℕ) → Failed d p before a K h → Failed d p before b L i → highCode h ≡ highCode i → h ≡ i
+  same-high : (a b : List ℕ) (K L : ℕ) (h i : Option ℕ) → Failed d p before a K h → Failed d p before b L i → high-code h ≡ high-code i → h ≡ i
   same-high a b K L none none x y e = refl
   same-high a b K L none (some i) x y e = absurd (omega (arith, e, high-few b L i y))
   same-high a b K L (some h) none x y e = absurd (omega (arith, e, high-few a K h x))
   same-high a b K L (some h) (some i) x y e = ap some e
 
-  pub codes-tell : (a b : List ℕ) (x y : Answer) → Answered d p before a x → Answered d p before b y → fitCodes x ≡ fitCodes y → x ≡ y
+  pub codes-tell : (a b : List ℕ) (x y : Answer) → Answered d p before a x → Answered d p before b y → fit-codes x ≡ fit-codes y → x ≡ y
   unfolding Answered
   codes-tell a b (refused q) (refused q') u v e = ap refused (ap (λ (r : Fit). r .question) e)
   codes-tell a b (fits c) (fits c') u v e = ap fits (ap (λ (r : Fit). r .count) e)

@@ -11,7 +11,7 @@ use borrow.Author.Tests.{eqb-true}
 use Rattle.table.specs.Lists.{every}
 use Rattle.table.specs.Table.{origin}
 use Rattle.table.proofs.Lists.{both}
-use Rattle.message.specs.Message.{Value, text-bytes, announced, values-of, legal-value, legal-values, front, frontOf}
+use Rattle.message.specs.Message.{Value, text-bytes, announced, values-of, legal-value, legal-values, front, front-of}
 use Rattle.message.proofs.Reading.{text-within, values-length, front-parts}
 use Rattle.monitor.specs.Due.{first-length}
 
@@ -41,8 +41,8 @@ module _ (bytes : List ℕ) where
   few-where true e = announced-few (e refl)
   few-where false e = zero-le
 
-  pub front-few : frontOf bytes .length ≤ 285
-  unfolding frontOf
+  pub front-few : front-of bytes .length ≤ 285
+  unfolding front-of
   front-few = few-where (eqb (front bytes) 0) (eqb-true (front bytes) 0)
 
   pub first-few : first-length bytes ≤ 285

@@ -22,11 +22,11 @@ use Rattle.table.specs.Lists.{first-no}
 use Rattle.monitor.specs.Due.{Awaited, refused, of-side, sending, awaited}
 use Rattle.monitor.proofs.Asking.{zero-or, not-its-turn, stops-there, goes-on, asked-first, asked-then, refused-step}
 use Rattle.sojimu.specs.declared.steps.Verdict.{Verdict}
-use Rattle.sojimu.specs.Codes.{sideOf, stateOf, stateBytes, verdictCodes}
+use Rattle.sojimu.specs.Codes.{code-side, state-of, state-bytes, verdict-codes}
 use Rattle.sojimu.specs.Calls.{stepping-as, bytes-after, crossing, step-codes}
 use Rattle.sojimu.specs.Inner.{stand-in}
 
-pub no-side : (code : ℕ) → (code ≡ 0 → ⊥) → (code ≡ 1 → ⊥) → sideOf code ≡ none
+pub no-side : (code : ℕ) → (code ≡ 0 → ⊥) → (code ≡ 1 → ⊥) → code-side code ≡ none
 no-side zero a b = absurd (a refl)
 no-side (suc zero) a b = absurd (b refl)
 no-side (suc (suc n)) a b = refl
@@ -84,20 +84,20 @@ module _ (t : Words) (s : State) where
   stands-in none message out = sym (out-of-turn-step (stand-in none (awaited t s)) message out (not-awaited (awaited t s)))
 
 -- a blame is kept, whatever its reason
-pub blame-kept : (side : Party) (why : Reason) (s : State) (bytes : List ℕ) → bytes-after (told (Blamed side why)) s bytes ≡ stateBytes s
+pub blame-kept : (side : Party) (why : Reason) (s : State) (bytes : List ℕ) → bytes-after (told (Blamed side why)) s bytes ≡ state-bytes s
 unfolding bytes-after told
 blame-kept side why s bytes = refl
 
 -- what a step's parts give together
 pub crossed : (t : Words) (s : State) (side : ℕ) (speaker : Party) (bytes message out : List ℕ) (r : Stepped) (verdict : Verdict) (bytes' out' : List ℕ)
-    → s ≡ stateOf (getD bytes 0 0) (getD bytes 1 0)
-    → speaker ≡ stand-in (sideOf side) (awaited t s)
+    → s ≡ state-of (getD bytes 0 0) (getD bytes 1 0)
+    → speaker ≡ stand-in (code-side side) (awaited t s)
     → outcome r out' ≡ stepping t s speaker message out
     → bytes' ≡ bytes-after (told (r .verdict)) (r .state) bytes
-    → verdict ≡ verdictCodes (told (r .verdict))
+    → verdict ≡ verdict-codes (told (r .verdict))
     → (verdict, bytes', out') ≡ step-codes t bytes side message out
 unfolding step-codes crossing outcome
 crossed t s side speaker bytes message out r verdict bytes' out' es ep er eb ev =
     rw (ev, eb)
     (ap (λ x. crossing x bytes)
-    (er ∙ ap (λ p. stepping t s p message out) ep ∙ sym (stands-in t s (sideOf side) message out) ∙ ap (λ s. stepping-as (sideOf side) t s message out) es))
+    (er ∙ ap (λ p. stepping t s p message out) ep ∙ sym (stands-in t s (code-side side) message out) ∙ ap (λ s. stepping-as (code-side side) t s message out) es))

@@ -9,7 +9,7 @@ use Prim.Native.Nat.{ℕ, _≤_, _<_}
 use native.Mathlib.Omega.{arith}
 use lib.Dec.{T, ltb, ltb→lt, nltb→le}
 use borrow.Author.Tests.{le-ltb}
-use Rattle.table.specs.View.{Words, branchesOf, view, soundOf}
+use Rattle.table.specs.View.{Words, branches-of, view, sound-of}
 use Rattle.table.proofs.Facts.{sound-facts}
 use Rattle.message.specs.Make.{exists, Making, making}
 use Rattle.message.specs.Layout.{has}
@@ -21,21 +21,21 @@ module _ (t : Words) (out : List ℕ) where
   unmade sound = refused out (cond sound 18 9)
 
   -- 9, and then a no to 18
-  asked-eighteen : (k : ℕ) (h : Option ℕ) → (soundOf t ≡ true → exists (view t) k h ≡ false) → making t k h out ≡ unmade (soundOf t)
-  asked-eighteen k h e = go (soundOf t) refl
+  asked-eighteen : (k : ℕ) (h : Option ℕ) → (sound-of t ≡ true → exists (view t) k h ≡ false) → making t k h out ≡ unmade (sound-of t)
+  asked-eighteen k h e = go (sound-of t) refl
     where
-      go : (b : Bool) → soundOf t ≡ b → making t k h out ≡ unmade b
+      go : (b : Bool) → sound-of t ≡ b → making t k h out ≡ unmade b
       go true s = says-18 t k h out s (e s)
       go false s = says-9 t k h out s
 
-  no-branch : (k : ℕ) (h : Option ℕ) → 128 ≤ k → making t k h out ≡ unmade (soundOf t)
+  no-branch : (k : ℕ) (h : Option ℕ) → 128 ≤ k → making t k h out ≡ unmade (sound-of t)
   no-branch k h l = asked-eighteen k h (λ s. none-there t k h (omega (arith, sound-facts t s .room, l)))
 
-  no-field : (k f : ℕ) → 4 ≤ f → making t k (some f) out ≡ unmade (soundOf t)
+  no-field : (k f : ℕ) → 4 ≤ f → making t k (some f) out ≡ unmade (sound-of t)
   unfolding has
-  no-field k f l = asked-eighteen k (some f) (λ s. go s (ltb k (branchesOf t)) (ltb→lt k (branchesOf t)) (nltb→le k (branchesOf t)))
+  no-field k f l = asked-eighteen k (some f) (λ s. go s (ltb k (branches-of t)) (ltb→lt k (branches-of t)) (nltb→le k (branches-of t)))
     where
-      go : soundOf t ≡ true → (b : Bool) → (T b → k < branchesOf t) → (T (not b) → branchesOf t ≤ k) → exists (view t) k (some f) ≡ false
+      go : sound-of t ≡ true → (b : Bool) → (T b → k < branches-of t) → (T (not b) → branches-of t ≤ k) → exists (view t) k (some f) ≡ false
       go s true m n = there t k (some f) (m tt) ∙ le-ltb f (count t k) (omega (arith, sound-facts t s .counts k (m tt), l))
       go s false m n = none-there t k (some f) (n tt)
 

@@ -18,7 +18,7 @@ use Rattle.fit.specs.Answer.{Answer, Answered}
 use Rattle.sojimu.specs.declared.steps.Verdict.{Verdict}
 use Rattle.sojimu.specs.declared.steps.Due.{Due}
 use Rattle.sojimu.specs.declared.fits.Fit.{Fit}
-use Rattle.sojimu.specs.Codes.{sideOf, stateOf, stateBytes, verdictCodes, fitCodes}
+use Rattle.sojimu.specs.Codes.{code-side, state-of, state-bytes, verdict-codes, fit-codes}
 use denote.Ref.{RefT}
 
 -- ---- one step
@@ -31,16 +31,16 @@ stepping-as none t s message out = refusing (first-no (of-state t s ++ ((12, fal
 -- the state's two bytes after a step: a refusal leaves them as they were
 unfoldable pub bytes-after : Told → M.State → List ℕ → List ℕ
 bytes-after (refused q) s bytes = bytes
-bytes-after (blamed side n f) s bytes = stateBytes s
-bytes-after forwarded s bytes = stateBytes s
+bytes-after (blamed side n f) s bytes = state-bytes s
+bytes-after forwarded s bytes = state-bytes s
 
 -- the verdict, the state's two bytes, and the output
 unfoldable pub crossing : Outcome → List ℕ → Verdict × List ℕ × List ℕ
-crossing r bytes = (verdictCodes (r .verdict), bytes-after (r .verdict) (r .state) bytes, r .output)
+crossing r bytes = (verdict-codes (r .verdict), bytes-after (r .verdict) (r .state) bytes, r .output)
 
 unfoldable pub step-codes : Words → List ℕ → ℕ → List ℕ → List ℕ → Verdict × List ℕ × List ℕ
 step-codes t bytes side message out =
-    crossing (stepping-as (sideOf side) t (stateOf (getD bytes 0 0) (getD bytes 1 0)) message out) bytes
+    crossing (stepping-as (code-side side) t (state-of (getD bytes 0 0) (getD bytes 1 0)) message out) bytes
 
 -- ---- the due due-part
 
@@ -64,5 +64,5 @@ due-part r device host = cut (waiting (r .side) device host) (r .length)
 -- from the promise (`DemandThree` in fit/specs/Answer)
 pub record Checked (d p : Words) (before after : List ℕ) (r : Fit) : Type 0 where
   pub answer : Answer
-  pub codes : r ≡ fitCodes answer
+  pub codes : r ≡ fit-codes answer
   pub answered : Answered d p before after answer

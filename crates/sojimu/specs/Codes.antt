@@ -24,76 +24,76 @@ use Rattle.sojimu.specs.declared.fits.Fit.{Fit}
 -- ---- sides and turns
 
 -- 0 device, 1 host; any other code is no side's
-abbrev pub sideOf : ℕ → Option Party
-sideOf zero = some Device
-sideOf (suc zero) = some Host
-sideOf (suc (suc n)) = none
+abbrev pub code-side : ℕ → Option Party
+code-side zero = some Device
+code-side (suc zero) = some Host
+code-side (suc (suc n)) = none
 
-abbrev pub partyCode : Party → ℕ
-partyCode Device = 0
-partyCode Host = 1
+abbrev pub party-code : Party → ℕ
+party-code Device = 0
+party-code Host = 1
 
 -- whose turn it is: the question that got a no, or 0, and the side
-abbrev pub turnCodes : D.Awaited → Turn
-turnCodes (D.refused q) = record { question = q; side = 0 }
-turnCodes (D.of-side side) = record { question = 0; side = partyCode side }
+abbrev pub turn-codes : D.Awaited → Turn
+turn-codes (D.refused q) = record { question = q; side = 0 }
+turn-codes (D.of-side side) = record { question = 0; side = party-code side }
 
 -- ---- the state: a position, and a standing's code
 
 -- 0 running, 1 device blamed, 2 host blamed
-abbrev pub standingCode : Standing → ℕ
-standingCode Running = 0
-standingCode DeviceBlamed = 1
-standingCode HostBlamed = 2
+abbrev pub standing-code : Standing → ℕ
+standing-code Running = 0
+standing-code DeviceBlamed = 1
+standing-code HostBlamed = 2
 
 -- any other code is not running, either: it is read as 2
-abbrev pub standingOf : ℕ → Standing
-standingOf zero = Running
-standingOf (suc zero) = DeviceBlamed
-standingOf (suc (suc n)) = HostBlamed
+abbrev pub standing-of : ℕ → Standing
+standing-of zero = Running
+standing-of (suc zero) = DeviceBlamed
+standing-of (suc (suc n)) = HostBlamed
 
-abbrev pub stateOf : ℕ → ℕ → M.State
-stateOf position standing = record { position = position; standing = standingOf standing }
+abbrev pub state-of : ℕ → ℕ → M.State
+state-of position standing = record { position = position; standing = standing-of standing }
 
-abbrev pub stateCodes : M.State → State
-stateCodes s = record { position = s .position; standing = standingCode (s .standing) }
+abbrev pub state-codes : M.State → State
+state-codes s = record { position = s .position; standing = standing-code (s .standing) }
 
 -- as two bytes
-abbrev pub stateBytes : M.State → List ℕ
-stateBytes s = s .position ∷ standingCode (s .standing) ∷ []
+abbrev pub state-bytes : M.State → List ℕ
+state-bytes s = s .position ∷ standing-code (s .standing) ∷ []
 
 -- ---- the verdict of a step
 
 -- 0 forwarded; 1 refused, with the question; 2 blamed, with the party, the reason and, with reason 3, the field
-abbrev pub verdictCodes : Told → Verdict
-verdictCodes forwarded = record { outcome = 0; question = 0; party = 0; reason = 0; field = 0 }
-verdictCodes (refused q) = record { outcome = 1; question = q; party = 0; reason = 0; field = 0 }
-verdictCodes (blamed side n none) = record { outcome = 2; question = 0; party = partyCode side; reason = n; field = 0 }
-verdictCodes (blamed side n (some f)) = record { outcome = 2; question = 0; party = partyCode side; reason = n; field = f }
+abbrev pub verdict-codes : Told → Verdict
+verdict-codes forwarded = record { outcome = 0; question = 0; party = 0; reason = 0; field = 0 }
+verdict-codes (refused q) = record { outcome = 1; question = q; party = 0; reason = 0; field = 0 }
+verdict-codes (blamed side n none) = record { outcome = 2; question = 0; party = party-code side; reason = n; field = 0 }
+verdict-codes (blamed side n (some f)) = record { outcome = 2; question = 0; party = party-code side; reason = n; field = f }
 
 -- ---- a message's front; a made message, and the field that is high
 
 -- the question that got a no, or 0, and the length that is announced
-abbrev pub headCodes : H.Head → Head
-headCodes h = record { question = h .question; length = h .length }
+abbrev pub head-codes : H.Head → Head
+head-codes h = record { question = h .question; length = h .length }
 
 -- 255: every number is low
-abbrev pub namedBy : ℕ → Option ℕ
-namedBy n = cond (eqb n 255) none (some n)
+abbrev pub named-by : ℕ → Option ℕ
+named-by n = cond (eqb n 255) none (some n)
 
-abbrev pub highCode : Option ℕ → ℕ
-highCode none = 255
-highCode (some f) = f
+abbrev pub high-code : Option ℕ → ℕ
+high-code none = 255
+high-code (some f) = f
 
 -- the question that got a no, or 0, and the length
-abbrev pub madeCodes : ℕ × ℕ → Made
-madeCodes n = record { question = n .0; length = n .1 }
+abbrev pub made-codes : ℕ × ℕ → Made
+made-codes n = record { question = n .0; length = n .1 }
 
 -- ---- the fit check's answer
 
 -- 0 it fits, with the number of pairs met; 1 it fails, with K and the field that is high in the last move; 2 refused, with the
 -- question
-abbrev pub fitCodes : F.Answer → Fit
-fitCodes (F.fits c) = record { outcome = 0; question = 0; count = c; high = highCode none }
-fitCodes (F.fails K h) = record { outcome = 1; question = 0; count = K; high = highCode h }
-fitCodes (F.refused q) = record { outcome = 2; question = q; count = 0; high = highCode none }
+abbrev pub fit-codes : F.Answer → Fit
+fit-codes (F.fits c) = record { outcome = 0; question = 0; count = c; high = high-code none }
+fit-codes (F.fails K h) = record { outcome = 1; question = 0; count = K; high = high-code h }
+fit-codes (F.refused q) = record { outcome = 2; question = q; count = 0; high = high-code none }

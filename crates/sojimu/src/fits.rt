@@ -1,8 +1,8 @@
 // The fit check.
 ghost use mathlib.Core.Path.{_≡_};
-ghost use Rattle.message.specs.Make.{highOf};
-ghost use Rattle.fit.specs.Answer.{answerOf};
-ghost use Rattle.sojimu.specs.Codes.{highCode, fitCodes};
+ghost use Rattle.message.specs.Make.{high-of};
+ghost use Rattle.fit.specs.Answer.{answer-of};
+ghost use Rattle.sojimu.specs.Codes.{high-code, fit-codes};
 ghost use Rattle.sojimu.specs.Calls.{Checked};
 use fit::Fitting;
 use message::High;
@@ -28,7 +28,7 @@ pub extern "C" fn sojimu_raw_fit(device: &Table, protocol: &Table, list: &mut [u
 }
 
 fn fit_codes(fitting: Fitting) -> Fit
-    ensures { λ r. ⌜ r ≡ fitCodes (answerOf fitting) ⌝ }
+    ensures { λ r. ⌜ r ≡ fit-codes (answer-of fitting) ⌝ }
 {
     match fitting {
         Fitting::Fits(count) => Fit {
@@ -53,7 +53,7 @@ fn fit_codes(fitting: Fitting) -> Fit
 }
 
 fn high_code(field: High) -> u32
-    ensures { λ r. ⌜ r ≡ highCode (highOf field) ⌝ }
+    ensures { λ r. ⌜ r ≡ high-code (high-of field) ⌝ }
 {
     match field {
         High::Nothing => 255,

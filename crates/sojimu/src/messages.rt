@@ -1,8 +1,8 @@
 // Messages: their questions, their label, and the message made from a branch.
 ghost use mathlib.Core.Path.{_≡_};
-ghost use Rattle.message.specs.Message.{has-label, frontOf, broken, refusal};
-ghost use Rattle.message.specs.Make.{highOf, made-numbers, making};
-ghost use Rattle.sojimu.specs.Codes.{headCodes, namedBy, madeCodes};
+ghost use Rattle.message.specs.Message.{has-label, front-of, broken, refusal};
+ghost use Rattle.message.specs.Make.{high-of, made-numbers, making};
+ghost use Rattle.sojimu.specs.Codes.{head-codes, named-by, made-codes};
 ghost use Rattle.sojimu.specs.Inner.{SameBranch, SameField};
 use message::High;
 use table::Table;
@@ -24,7 +24,7 @@ pub struct Made {
 // 13 and 14 of bytes that may go on, and the length that is announced.
 #[no_mangle]
 pub extern "C" fn sojimu_raw_front(bytes: &[u8]) -> Head
-    ensures { λ r. ⌜ r ≡ headCodes (frontOf (now (bytes .entry))) ⌝ }
+    ensures { λ r. ⌜ r ≡ head-codes (front-of (now (bytes .entry))) ⌝ }
 {
     let head = message::front(bytes);
     Head {
@@ -60,8 +60,8 @@ pub extern "C" fn sojimu_raw_has_label(bytes: &[u8], label: u64) -> bool
 // The message of a branch, all low or one named field high.
 #[no_mangle]
 pub extern "C" fn sojimu_raw_make(table: &Table, branch: u32, named: u32, out: &mut [u8]) -> Made
-    ensures { λ r. ⌜ r ≡ madeCodes (making (now (table .entry)) branch (namedBy named) (now (out .entry)) .numbers) ⌝ }
-    ensures { λ r. ⌜ now (out .exit) ≡ making (now (table .entry)) branch (namedBy named) (now (out .entry)) .buffer ⌝ }
+    ensures { λ r. ⌜ r ≡ made-codes (making (now (table .entry)) branch (named-by named) (now (out .entry)) .numbers) ⌝ }
+    ensures { λ r. ⌜ now (out .exit) ≡ making (now (table .entry)) branch (named-by named) (now (out .entry)) .buffer ⌝ }
 {
     let r = message::make(table, branch_of(branch), high_of(named), out);
     made_codes(r)
@@ -79,7 +79,7 @@ fn branch_of(branch: u32) -> u16
 
 // 255 names no field. A number that no field has stands for every such number.
 fn high_of(named: u32) -> High
-    ensures { λ r. ⌜ SameField (highOf r) (namedBy named) ⌝ }
+    ensures { λ r. ⌜ SameField (high-of r) (named-by named) ⌝ }
 {
     if named == 255 {
         return High::Nothing;
@@ -91,7 +91,7 @@ fn high_of(named: u32) -> High
 }
 
 fn made_codes(made: message::Made) -> Made
-    ensures { λ r. ⌜ r ≡ madeCodes (made-numbers made) ⌝ }
+    ensures { λ r. ⌜ r ≡ made-codes (made-numbers made) ⌝ }
 {
     match made {
         message::Made::Refused(question) => Made {

@@ -2,8 +2,8 @@
 ghost use mathlib.Core.Path.{_≡_};
 ghost use Rattle.monitor.specs.declared.Verdict.the-variants.{Blamed};
 ghost use Rattle.monitor.specs.Step.{fresh, told};
-ghost use Rattle.monitor.specs.Due.{awaited, turn, first-length};
-ghost use Rattle.sojimu.specs.Codes.{sideOf, partyCode, turnCodes, standingCode, standingOf, stateOf, stateCodes, stateBytes, verdictCodes};
+ghost use Rattle.monitor.specs.Due.{awaited, turn-answer, first-length};
+ghost use Rattle.sojimu.specs.Codes.{code-side, party-code, turn-codes, standing-code, standing-of, state-of, state-codes, state-bytes, verdict-codes};
 ghost use Rattle.sojimu.specs.Calls.{bytes-after, step-codes, due-codes};
 ghost use Rattle.sojimu.specs.Inner.{stand-in};
 use monitor::Reason;
@@ -45,7 +45,7 @@ pub struct Due {
 
 #[no_mangle]
 pub extern "C" fn sojimu_fresh() -> State
-    ensures { λ r. ⌜ r ≡ stateCodes fresh ⌝ }
+    ensures { λ r. ⌜ r ≡ state-codes fresh ⌝ }
 {
     let s = monitor::fresh();
     let standing = s.standing;
@@ -77,7 +77,7 @@ pub extern "C" fn sojimu_raw_step(
 
 // The side in whose name a step is taken: for a code that is no side's, one whose turn it is not.
 fn speaker_of(table: &Table, s: monitor::State, side: u32) -> Party
-    ensures { λ r. ⌜ r ≡ stand-in (sideOf side) (awaited (now (table .entry)) s) ⌝ }
+    ensures { λ r. ⌜ r ≡ stand-in (code-side side) (awaited (now (table .entry)) s) ⌝ }
 {
     if side == 0 {
         return Party::Device;
@@ -109,7 +109,7 @@ fn keep(state: &mut [u8; 2], r: Stepped)
 }
 
 fn put(state: &mut [u8; 2], s: monitor::State)
-    ensures { λ _. ⌜ now (state .exit) ≡ stateBytes s ⌝ }
+    ensures { λ _. ⌜ now (state .exit) ≡ state-bytes s ⌝ }
 {
     let standing = s.standing;
     let position = s.position;
@@ -120,7 +120,7 @@ fn put(state: &mut [u8; 2], s: monitor::State)
 // Whose turn it is. Asks 9, 10 and 11.
 #[no_mangle]
 pub extern "C" fn sojimu_turn(table: &Table, state: State) -> Turn
-    ensures { λ r. ⌜ r ≡ turnCodes (awaited (now (table .entry)) (stateOf (state .position) (state .standing))) ⌝ }
+    ensures { λ r. ⌜ r ≡ turn-codes (awaited (now (table .entry)) (state-of (state .position) (state .standing))) ⌝ }
 {
     let s = state_of(state.position, state.standing);
     let turn = monitor::whose_turn(table, s);
@@ -130,7 +130,7 @@ pub extern "C" fn sojimu_turn(table: &Table, state: State) -> Turn
 // The due part, as a side and a length.
 #[no_mangle]
 pub extern "C" fn sojimu_raw_due(table: &Table, state: State, device: &[u8], host: &[u8]) -> Due
-    ensures { λ r. ⌜ r ≡ due-codes (awaited (now (table .entry)) (stateOf (state .position) (state .standing)))
+    ensures { λ r. ⌜ r ≡ due-codes (awaited (now (table .entry)) (state-of (state .position) (state .standing)))
         (now (device .entry)) (now (host .entry)) ⌝ }
 {
     let s = state_of(state.position, state.standing);
@@ -158,7 +158,7 @@ fn first_of(side: u32, bytes: &[u8]) -> Due
 // ---- codes
 
 fn state_of(position: u8, standing: u8) -> monitor::State
-    ensures { λ r. ⌜ r ≡ stateOf position standing ⌝ }
+    ensures { λ r. ⌜ r ≡ state-of position standing ⌝ }
 {
     monitor::State {
         position,
@@ -167,7 +167,7 @@ fn state_of(position: u8, standing: u8) -> monitor::State
 }
 
 fn standing_of(code: u8) -> Standing
-    ensures { λ r. ⌜ r ≡ standingOf code ⌝ }
+    ensures { λ r. ⌜ r ≡ standing-of code ⌝ }
 {
     match code {
         0 => Standing::Running,
@@ -177,7 +177,7 @@ fn standing_of(code: u8) -> Standing
 }
 
 fn standing_code(standing: Standing) -> u8
-    ensures { λ r. ⌜ r ≡ standingCode standing ⌝ }
+    ensures { λ r. ⌜ r ≡ standing-code standing ⌝ }
 {
     match standing {
         Standing::Running => 0,
@@ -187,7 +187,7 @@ fn standing_code(standing: Standing) -> u8
 }
 
 fn party_code(party: Party) -> u8
-    ensures { λ r. ⌜ r ≡ partyCode party ⌝ }
+    ensures { λ r. ⌜ r ≡ party-code party ⌝ }
 {
     match party {
         Party::Device => 0,
@@ -196,7 +196,7 @@ fn party_code(party: Party) -> u8
 }
 
 fn turn_codes(t: monitor::Turn) -> Turn
-    ensures { λ r. ⌜ r ≡ turnCodes (turn t) ⌝ }
+    ensures { λ r. ⌜ r ≡ turn-codes (turn-answer t) ⌝ }
 {
     match t {
         monitor::Turn::Refused(question) => Turn {
@@ -211,7 +211,7 @@ fn turn_codes(t: monitor::Turn) -> Turn
 }
 
 fn verdict_codes(verdict: monitor::Verdict) -> Verdict
-    ensures { λ r. ⌜ r ≡ verdictCodes (told verdict) ⌝ }
+    ensures { λ r. ⌜ r ≡ verdict-codes (told verdict) ⌝ }
 {
     match verdict {
         monitor::Verdict::Forwarded => Verdict {
@@ -233,7 +233,7 @@ fn verdict_codes(verdict: monitor::Verdict) -> Verdict
 }
 
 fn blame_codes(party: Party, reason: Reason) -> Verdict
-    ensures { λ r. ⌜ r ≡ verdictCodes (told (Blamed party reason)) ⌝ }
+    ensures { λ r. ⌜ r ≡ verdict-codes (told (Blamed party reason)) ⌝ }
 {
     let code = party_code(party);
     match reason {

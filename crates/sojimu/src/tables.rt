@@ -1,14 +1,14 @@
 // Question 9, its two leaves, and the dual.
 ghost use mathlib.Core.Path.{_≡_};
 ghost use Rattle.table.specs.Table.{legal-label, legal-field};
-ghost use Rattle.table.specs.View.{labelOf, soundOf, soundAt, emptyTable, dualOf};
+ghost use Rattle.table.specs.View.{label-of, sound-of, sound-at, empty-table, dual-of};
 use table::Table;
 use table::Turned;
 
 // Question 9.
 #[no_mangle]
 pub extern "C" fn sojimu_sound(table: &Table) -> bool
-    ensures { λ r. ⌜ r ≡ soundOf (now (table .entry)) ⌝ }
+    ensures { λ r. ⌜ r ≡ sound-of (now (table .entry)) ⌝ }
 {
     table::sound(table)
 }
@@ -16,7 +16,7 @@ pub extern "C" fn sojimu_sound(table: &Table) -> bool
 // Question 9 where a position is given with the table.
 #[no_mangle]
 pub extern "C" fn sojimu_sound_at(table: &Table, position: u32) -> bool
-    ensures { λ r. ⌜ r ≡ soundAt (now (table .entry)) position ⌝ }
+    ensures { λ r. ⌜ r ≡ sound-at (now (table .entry)) position ⌝ }
 {
     table::sound_at(table, position)
 }
@@ -30,7 +30,7 @@ pub struct Words {
 // The table that a refusal gives back.
 #[no_mangle]
 pub extern "C" fn sojimu_empty() -> Words
-    ensures { λ r. ⌜ r ≡ record { table = emptyTable } ⌝ }
+    ensures { λ r. ⌜ r ≡ record { table = empty-table } ⌝ }
 {
     Words {
         table: table::empty(),
@@ -40,7 +40,7 @@ pub extern "C" fn sojimu_empty() -> Words
 // The dual, or 9 and the empty table.
 #[no_mangle]
 pub extern "C" fn sojimu_dual(table: &Table) -> Turned
-    ensures { λ r. ⌜ r ≡ dualOf (now (table .entry)) ⌝ }
+    ensures { λ r. ⌜ r ≡ dual-of (now (table .entry)) ⌝ }
 {
     table::dual(table)
 }
@@ -48,7 +48,7 @@ pub extern "C" fn sojimu_dual(table: &Table) -> Turned
 // Whether a table may have this label.
 #[no_mangle]
 pub extern "C" fn sojimu_label_legal(label: u64) -> bool
-    ensures { λ r. ⌜ r ≡ legal-label (labelOf label) ⌝ }
+    ensures { λ r. ⌜ r ≡ legal-label (label-of label) ⌝ }
 {
     table::label_legal(label)
 }

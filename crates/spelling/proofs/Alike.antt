@@ -10,62 +10,62 @@ use borrow.Author.Tests.{eqb-true, eqb-false}
 use Rattle.table.specs.Lists.{first-no}
 use Rattle.text.proofs.Asked.{asked}
 use Rattle.table.specs.Table.{Table}
-use Rattle.text.specs.Token.{wordIn}
-use Rattle.text.specs.Number.{Signed, signedIn, offset, inKind}
-use Rattle.text.specs.Grammar.{Tok, word, number, sign, tokOf, or-else}
+use Rattle.text.specs.Token.{word-in}
+use Rattle.text.specs.Number.{Signed, signed-in, offset, in-kind}
+use Rattle.text.specs.Grammar.{Tok, word, number, sign, tok-of, or-else}
 use Rattle.text.specs.Building.{label-used, denied}
-use Rattle.text.specs.Reading.{Item, just, name, label, type, more, fields, field, low, high, moreFields, Open, State, state, openIn, tableIn, next-item, meaning, ownerIn, admits, asType, isFound, inRange, asLabel, wellFormed, allowed, name-bound, guarded, ranged, new-label, within, target, began, taken, run-tokens, questions}
+use Rattle.text.specs.Reading.{Item, just, name, label, type, more, fields, field, low, high, more-fields, Open, State, state, open-in, table-in, next-item, meaning, owner-in, admits, as-type, is-found, number-in-range, as-label, token-formed, allowed, name-bound, guarded, ranged, new-label, within, target, began, taken, run-tokens, questions}
 use Rattle.text.specs.declared.token.Token.{Token}
 use Rattle.text.proofs.Toks.{word-kind, number-kind, kind-word, kind-number}
 use Rattle.text.proofs.Goes.{first-is, rest-is, never-empty, passed}
 use Rattle.text.proofs.Becomes.{asked-none}
-use Rattle.spelling.specs.Places.{kindIn}
+use Rattle.spelling.specs.Places.{kind-in}
 
-kind-in : (s : List ℕ) (k : Token) → kindIn (tokOf s k) ≡ k .kind
-unfolding tokOf
-kind-in s k = go (eqb (k .kind) 65) refl (eqb (k .kind) 48) refl
+kind-in-is : (s : List ℕ) (k : Token) → kind-in (tok-of s k) ≡ k .kind
+unfolding tok-of
+kind-in-is s k = go (eqb (k .kind) 65) refl (eqb (k .kind) 48) refl
   where
     go : (b : Bool) → eqb (k .kind) 65 ≡ b → (c : Bool) → eqb (k .kind) 48 ≡ c
-        → kindIn (cond b (word (wordIn s k)) (cond c (number (signedIn s k)) (sign (k .kind)))) ≡ k .kind
+        → kind-in (cond b (word (word-in s k)) (cond c (number (signed-in s k)) (sign (k .kind)))) ≡ k .kind
     go true e c f = sym (eqb-true _ _ e)
     go false e true f = sym (eqb-true _ _ f)
     go false e false f = refl
 
-module _ (s u : List ℕ) (k j : Token) (same : tokOf s k ≡ tokOf u j) where
+module _ (s u : List ℕ) (k j : Token) (same : tok-of s k ≡ tok-of u j) where
   kind-same : k .kind ≡ j .kind
-  kind-same = sym (kind-in s k) ∙ ap kindIn same ∙ kind-in u j
+  kind-same = sym (kind-in-is s k) ∙ ap kind-in same ∙ kind-in-is u j
 
-  word-same : eqb (k .kind) 65 ≡ true → wordIn s k ≡ wordIn u j
-  word-same e = sym (word-kind u j (wordIn s k) (sym same ∙ kind-word s k (eqb-true _ _ e)) .1)
+  word-same : eqb (k .kind) 65 ≡ true → word-in s k ≡ word-in u j
+  word-same e = sym (word-kind u j (word-in s k) (sym same ∙ kind-word s k (eqb-true _ _ e)) .1)
 
-  number-same : eqb (k .kind) 48 ≡ true → signedIn s k ≡ signedIn u j
-  number-same e = sym (number-kind u j (signedIn s k) (sym same ∙ kind-number s k (eqb-true _ _ e)) .1)
+  number-same : eqb (k .kind) 48 ≡ true → signed-in s k ≡ signed-in u j
+  number-same e = sym (number-kind u j (signed-in s k) (sym same ∙ kind-number s k (eqb-true _ _ e)) .1)
 
   -- a name's word, where the token is a name
-  word-in : {A : Type 0} (f : ℕ → A) (a : A) → cond (eqb (k .kind) 65) (f (wordIn s k)) a ≡ cond (eqb (j .kind) 65) (f (wordIn u j)) a
-  word-in {A} f a = go (eqb (k .kind) 65) refl (word-same) ∙ ap (λ (n : ℕ). cond (eqb n 65) (f (wordIn u j)) a) kind-same
+  word-in-is : {A : Type 0} (f : ℕ → A) (a : A) → cond (eqb (k .kind) 65) (f (word-in s k)) a ≡ cond (eqb (j .kind) 65) (f (word-in u j)) a
+  word-in-is {A} f a = go (eqb (k .kind) 65) refl (word-same) ∙ ap (λ (n : ℕ). cond (eqb n 65) (f (word-in u j)) a) kind-same
     where
-      go : (b : Bool) → eqb (k .kind) 65 ≡ b → (eqb (k .kind) 65 ≡ true → wordIn s k ≡ wordIn u j)
-          → cond b (f (wordIn s k)) a ≡ cond (eqb (k .kind) 65) (f (wordIn u j)) a
-      go true e h = ap f (h e) ∙ ap (λ (b : Bool). cond b (f (wordIn u j)) a) (sym e)
-      go false e h = ap (λ (b : Bool). cond b (f (wordIn u j)) a) (sym e)
+      go : (b : Bool) → eqb (k .kind) 65 ≡ b → (eqb (k .kind) 65 ≡ true → word-in s k ≡ word-in u j)
+          → cond b (f (word-in s k)) a ≡ cond (eqb (k .kind) 65) (f (word-in u j)) a
+      go true e h = ap f (h e) ∙ ap (λ (b : Bool). cond b (f (word-in u j)) a) (sym e)
+      go false e h = ap (λ (b : Bool). cond b (f (word-in u j)) a) (sym e)
 
   -- ---- the questions
 
   bound-same : (i : Item) (O : List Open)
-      → cond (asType i (k .kind)) (isFound (meaning O (wordIn s k))) true ≡ cond (asType i (j .kind)) (isFound (meaning O (wordIn u j))) true
+      → cond (as-type i (k .kind)) (is-found (meaning O (word-in s k))) true ≡ cond (as-type i (j .kind)) (is-found (meaning O (word-in u j))) true
   bound-same (just n) O = refl
   bound-same name O = refl
   bound-same label O = refl
-  bound-same type O = word-in (λ x. isFound (meaning O x)) true
+  bound-same type O = word-in-is (λ x. is-found (meaning O x)) true
   bound-same (more σ) O = refl
   bound-same fields O = refl
   bound-same field O = refl
   bound-same (low κ) O = refl
   bound-same (high κ l) O = refl
-  bound-same moreFields O = refl
+  bound-same more-fields O = refl
 
-  range-same : (i : Item) → admits i (k .kind) ≡ true → inRange s k i ≡ inRange u j i
+  range-same : (i : Item) → admits i (k .kind) ≡ true → number-in-range s k i ≡ number-in-range u j i
   range-same (just n) a = refl
   range-same name a = refl
   range-same label a = refl
@@ -73,12 +73,12 @@ module _ (s u : List ℕ) (k j : Token) (same : tokOf s k ≡ tokOf u j) where
   range-same (more σ) a = refl
   range-same fields a = refl
   range-same field a = refl
-  range-same (low κ) a = ap (inKind κ) (number-same a)
-  range-same (high κ l) a = ap (λ (n : Signed). inKind κ n && not (ltb (offset n) l)) (number-same a)
-  range-same moreFields a = refl
+  range-same (low κ) a = ap (in-kind κ) (number-same a)
+  range-same (high κ l) a = ap (λ (n : Signed). in-kind κ n && not (ltb (offset n) l)) (number-same a)
+  range-same more-fields a = refl
 
   label-same : (i : Item) (T : Table) (o : ℕ) → admits i (k .kind) ≡ true
-      → cond (asLabel i) (not (label-used T o (wordIn s k))) true ≡ cond (asLabel i) (not (label-used T o (wordIn u j))) true
+      → cond (as-label i) (not (label-used T o (word-in s k))) true ≡ cond (as-label i) (not (label-used T o (word-in u j))) true
   label-same (just n) T o a = refl
   label-same name T o a = refl
   label-same label T o a = ap (λ (x : ℕ). not (label-used T o x)) (word-same a)
@@ -88,10 +88,10 @@ module _ (s u : List ℕ) (k j : Token) (same : tokOf s k ≡ tokOf u j) where
   label-same field T o a = refl
   label-same (low κ) T o a = refl
   label-same (high κ l) T o a = refl
-  label-same moreFields T o a = refl
+  label-same more-fields T o a = refl
 
-  formed-same : (st : State) → wellFormed s st k ≡ wellFormed u st j
-  unfolding wellFormed
+  formed-same : (st : State) → token-formed s st k ≡ token-formed u st j
+  unfolding token-formed
   formed-same st = rw kind-same
 
   allowed-same : (st : State) → allowed s st k ≡ allowed u st j
@@ -100,7 +100,7 @@ module _ (s u : List ℕ) (k j : Token) (same : tokOf s k ≡ tokOf u j) where
 
   named-same : (st : State) → name-bound s st k ≡ name-bound u st j
   unfolding name-bound
-  named-same st = bound-same (next-item st) (openIn st)
+  named-same st = bound-same (next-item st) (open-in st)
 
   guarded-same : (st : State) → guarded s st k ≡ guarded u st j
   unfolding guarded
@@ -112,7 +112,7 @@ module _ (s u : List ℕ) (k j : Token) (same : tokOf s k ≡ tokOf u j) where
 
   new-same : (st : State) → allowed s st k ≡ true → new-label s st k ≡ new-label u st j
   unfolding allowed new-label
-  new-same st a = label-same (next-item st) (tableIn st) (ownerIn (openIn st)) a
+  new-same st a = label-same (next-item st) (table-in st) (owner-in (open-in st)) a
 
   within-same : (st : State) → within s st k ≡ within u st j
   unfolding within
@@ -122,7 +122,7 @@ module _ (s u : List ℕ) (k j : Token) (same : tokOf s k ≡ tokOf u j) where
   unfolding first-no questions
   asked-same st =
       rw (formed-same st, named-same st, guarded-same st, within-same st)
-      (behind (wellFormed u st j) (λ r n. cond (name-bound u st j) (cond (guarded u st j) (cond r (cond n (cond (within u st j) 0 8) 7) 6) 5) 4)
+      (behind (token-formed u st j) (λ r n. cond (name-bound u st j) (cond (guarded u st j) (cond r (cond n (cond (within u st j) 0 8) 7) 6) 5) 4)
       (allowed s st k) (allowed u st j) (ranged s st k) (ranged u st j) (new-label s st k) (new-label u st j) (allowed-same st) (ranged-same st) (new-same st))
     where
       -- after 3, what is asked may go by 3
@@ -135,7 +135,7 @@ module _ (s u : List ℕ) (k j : Token) (same : tokOf s k ≡ tokOf u j) where
 
   target-same : (O : List Open) (n : ℕ) → target s k O n ≡ target u j O n
   unfolding target
-  target-same O n = word-in (λ x. or-else (meaning O x) n) n
+  target-same O n = word-in-is (λ x. or-else (meaning O x) n) n
 
   began-same : (E : List Item) (O : List Open) (T : Table) → began k E O T ≡ began j E O T
   unfolding began
@@ -153,7 +153,7 @@ module _ (s u : List ℕ) (k j : Token) (same : tokOf s k ≡ tokOf u j) where
   taken-same (state (field ∷ E) O b T) a = rw kind-same
   taken-same (state (low κ ∷ E) O b T) a = rw (number-same a)
   taken-same (state (high κ l ∷ E) O b T) a = rw (number-same a)
-  taken-same (state (moreFields ∷ E) O b T) a = rw kind-same
+  taken-same (state (more-fields ∷ E) O b T) a = rw kind-same
 
 -- ---- the first token that gets a no
 
@@ -165,12 +165,12 @@ module _ (s : List ℕ) where
     pub rest : List Token
     pub split : ks ≡ before ++ (here ∷ rest)
     pub place : here .start ≡ p
-    pub none : (u : List ℕ) (js : List Token) (ts : List Tok) → map (tokOf u) js ≡ map (tokOf s) before ++ (tokOf s here ∷ ts) → run-tokens u st js .question ≡ 0 → ⊥
+    pub none : (u : List ℕ) (js : List Token) (ts : List Tok) → map (tok-of u) js ≡ map (tok-of s) before ++ (tok-of s here ∷ ts) → run-tokens u st js .question ≡ 0 → ⊥
 
   stop-here : (st : State) (k : Token) (ks : List Token) → (asked s st k ≡ 0 → ⊥) → Stop st (k ∷ ks) (k .start)
   stop-here st k ks h = record { before = []; here = k; rest = ks; split = refl; place = refl; none = none }
     where
-      none : (u : List ℕ) (js : List Token) (ts : List Tok) → map (tokOf u) js ≡ tokOf s k ∷ ts → run-tokens u st js .question ≡ 0 → ⊥
+      none : (u : List ℕ) (js : List Token) (ts : List Tok) → map (tok-of u) js ≡ tok-of s k ∷ ts → run-tokens u st js .question ≡ 0 → ⊥
       none u [] ts e z = never-empty e
       none u (j ∷ js) ts e z = h (asked-same s u k j (sym (first-is e)) st ∙ passed u st j js z .0)
 
@@ -178,7 +178,7 @@ module _ (s : List ℕ) where
   stop-later st k ks p h r =
       record { before = k ∷ r .before; here = r .here; rest = r .rest; split = ap (λ (l : List Token). k ∷ l) (r .split); place = r .place; none = none }
     where
-      none : (u : List ℕ) (js : List Token) (ts : List Tok) → map (tokOf u) js ≡ tokOf s k ∷ (map (tokOf s) (r .before) ++ (tokOf s (r .here) ∷ ts))
+      none : (u : List ℕ) (js : List Token) (ts : List Tok) → map (tok-of u) js ≡ tok-of s k ∷ (map (tok-of s) (r .before) ++ (tok-of s (r .here) ∷ ts))
           → run-tokens u st js .question ≡ 0 → ⊥
       none u [] ts e z = never-empty e
       none u (j ∷ js) ts e z =

@@ -12,7 +12,7 @@ use Rattle.table.specs.Ascii.{ascii}
 use Rattle.table.specs.Lists.{every, same, matched}
 use Rattle.table.specs.Table.{upper, letter-or-digit}
 use Rattle.table.proofs.Lists.{both, never}
-use Rattle.text.specs.Token.{oneOf, isSpace, classOf}
+use Rattle.text.specs.Token.{one-of, is-space, class-of}
 use Rattle.text.specs.declared.token.Class.{Class}
 use Rattle.text.specs.declared.token.Class.the-variants.{Space, Lower, Upper, Digit, Dot, Minus, Sign, Other}
 use Rattle.text.proofs.Bytes.{code, is, ranged, class-test, upper-word, lower-word}
@@ -25,16 +25,16 @@ use Rattle.text.specs.Token as S
 in-range : (lo hi b : ℕ) → ((leb lo b && leb b hi) ≡ true) → (lo ≤ b) × (b ≤ hi)
 in-range lo hi b e = let p = both (leb lo b) (leb b hi) e in (leb-true lo b (p .0), leb-true b hi (p .1))
 
-pub class-upper : (b : ℕ) → upper b ≡ true → classOf b ≡ Upper
-unfolding classOf upper
+pub class-upper : (b : ℕ) → upper b ≡ true → class-of b ≡ Upper
+unfolding class-of upper
 class-upper b e = let p = in-range 65 90 b e in sym (ranged Upper (λ k. false) 65 26 b tt refl (p .0) (omega arith))
 
-pub class-digit : (b : ℕ) → a-digit b ≡ true → classOf b ≡ Digit
-unfolding classOf
+pub class-digit : (b : ℕ) → a-digit b ≡ true → class-of b ≡ Digit
+unfolding class-of
 class-digit b e = let p = in-range 48 57 b e in sym (ranged Digit (λ k. false) 48 10 b tt refl (p .0) (omega arith))
 
 -- the scanner's spaces are the blanks
-pub space-blank : (b : ℕ) → isSpace b ≡ blank b
+pub space-blank : (b : ℕ) → is-space b ≡ blank b
 space-blank b = go (eqb b 0x20) (eqb b 0x0A)
   where
     go : (x y : Bool) → cond x true (cond y true false) ≡ (x || y)
@@ -47,23 +47,23 @@ space-blank b = go (eqb b 0x20) (eqb b 0x0A)
 abbrev pub kinds : List (ℕ × String) → List ℕ
 kinds es = map (λ (e : ℕ × String). e .0) es
 
-pub beside-listed : (es : List (ℕ × String)) (k : ℕ) → oneOf (kinds es) k ≡ true → Listed es k (beside es k)
+pub beside-listed : (es : List (ℕ × String)) (k : ℕ) → one-of (kinds es) k ≡ true → Listed es k (beside es k)
 unfolding beside
 beside-listed [] k h = never h refl
 beside-listed (e ∷ es) k h = go (eqb k (e .0)) refl h (beside-listed es k)
   where
-    go : (c : Bool) → eqb k (e .0) ≡ c → cond c true (oneOf (kinds es) k) ≡ true → (oneOf (kinds es) k ≡ true → Listed es k (beside es k))
+    go : (c : Bool) → eqb k (e .0) ≡ c → cond c true (one-of (kinds es) k) ≡ true → (one-of (kinds es) k ≡ true → Listed es k (beside es k))
         → Listed (e ∷ es) k (cond c (ascii (e .1)) (beside es k))
     go true f h rest = inl (eqb-true _ _ f, refl)
     go false f h rest = inr (rest h)
 
 -- a test that each of a list passes
-pub each-one : (f : ℕ → Bool) (ks : List ℕ) (b : ℕ) → every f ks ≡ true → oneOf ks b ≡ true → f b ≡ true
+pub each-one : (f : ℕ → Bool) (ks : List ℕ) (b : ℕ) → every f ks ≡ true → one-of ks b ≡ true → f b ≡ true
 unfolding every
 each-one f [] b a e = never e refl
 each-one f (k ∷ ks) b a e = go (eqb b k) refl e (each-one f ks b (both (f k) (every f ks) a .1))
   where
-    go : (c : Bool) → eqb b k ≡ c → cond c true (oneOf ks b) ≡ true → (oneOf ks b ≡ true → f b ≡ true) → f b ≡ true
+    go : (c : Bool) → eqb b k ≡ c → cond c true (one-of ks b) ≡ true → (one-of ks b ≡ true → f b ≡ true) → f b ≡ true
     go true q e rest = ap f (eqb-true b k q) ∙ both (f k) (every f ks) a .0
     go false q e rest = rest e
 
@@ -75,16 +75,16 @@ same-is (x ∷ a) [] e = never e refl
 same-is (x ∷ a) (y ∷ b) e = let p = both (eqb x y) (same a b) e in ap₂ _∷_ (eqb-true x y (p .0)) (same-is a b (p .1))
 
 -- a sign of the scanner's is one of document 01's, and its kind is its byte
-is-listed : (b : ℕ) → oneOf S.signs b ≡ true → Listed sign-tokens b (b ∷ [])
+is-listed : (b : ℕ) → one-of S.signs b ≡ true → Listed sign-tokens b (b ∷ [])
 unfolding every same matched beside
 is-listed b e =
-    let p = both (oneOf (kinds sign-tokens) b) (same (beside sign-tokens b) (b ∷ [])) (each-one (λ k. oneOf (kinds sign-tokens) k && same (beside sign-tokens k) (k ∷ [])) S.signs b refl e) in
+    let p = both (one-of (kinds sign-tokens) b) (same (beside sign-tokens b) (b ∷ [])) (each-one (λ k. one-of (kinds sign-tokens) k && same (beside sign-tokens k) (k ∷ [])) S.signs b refl e) in
     rw (same-is (beside sign-tokens b) (b ∷ []) (p .1)) at (beside-listed sign-tokens b (p .0))
 
 -- ---- from a class to its bytes
 
-pub space-code : (b : ℕ) → isSpace b ≡ true → code (classOf b) ≡ 0
-unfolding every classOf
+pub space-code : (b : ℕ) → is-space b ≡ true → code (class-of b) ≡ 0
+unfolding every class-of
 space-code b e = eqb-true _ _ (each-one (is Space) (0x20 ∷ 0x0A ∷ []) b refl e)
 
 abbrev pub Seen : ℕ → Class → Type 0
@@ -97,10 +97,10 @@ Seen b Minus = b ≡ 45
 Seen b Sign = Listed sign-tokens b (b ∷ [])
 Seen b Other = Unit {0}
 
-pub seen : (b : ℕ) → Seen b (classOf b)
-seen b = go (classOf b) refl
+pub seen : (b : ℕ) → Seen b (class-of b)
+seen b = go (class-of b) refl
   where
-    go : (x : Class) → classOf b ≡ x → Seen b x
+    go : (x : Class) → class-of b ≡ x → Seen b x
     go Space e = tt
     go Lower e = lower-word b (class-test b Lower e)
     go Upper e = (class-test b Upper e, upper-word b (class-test b Upper e))

@@ -9,9 +9,9 @@ use lib.Dec.{leb}
 use borrow.Author.Tests.{leb-true}
 use Rattle.table.specs.Lists.{every}
 use Rattle.table.proofs.Lists.{both, join, never}
-use Rattle.text.specs.Number.{valueOf}
+use Rattle.text.specs.Number.{value-of}
 use Rattle.text.specs.Filled.{came-out, filled}
-use Rattle.text.specs.Grammar.{Field, Ty, stop, var, loop, choice, Br, last, also, Tok, sign, arrow, printMore, printFields, print, printBr, tableOf}
+use Rattle.text.specs.Grammar.{SyntaxField, Ty, stop, var, loop, choice, Br, last, also, Tok, sign, arrow, print-more, print-fields, print, print-br, table-of}
 use Rattle.text.proofs.Bytes.{upper-word}
 use Rattle.text.proofs.Packed.{label-word}
 use Rattle.spelling.specs.Spelling.{a-digit, Digits, Spells, a-sign, a-dot, a-word, a-name, a-zero, a-number, a-negative, Spelt, ran-out, a-blank, a-token}
@@ -22,13 +22,13 @@ use Rattle.spelling.proofs.Spell.{spell-spelt}
 
 -- ---- what is spelt can be written
 
-value-ge : (w : List ℕ) (v : ℕ) → v ≤ valueOf v w
-unfolding valueOf
+value-ge : (w : List ℕ) (v : ℕ) → v ≤ value-of v w
+unfolding value-of
 value-ge [] v = omega arith
 value-ge (b ∷ w) v = omega (arith, value-ge w (v * 10 + (b - 48)))
 
-positive : (b : ℕ) (w : List ℕ) → Digits (b ∷ w) → valueOf 0 (b ∷ w) ≡ 0 → ⊥
-unfolding valueOf every
+positive : (b : ℕ) (w : List ℕ) → Digits (b ∷ w) → value-of 0 (b ∷ w) ≡ 0 → ⊥
+unfolding value-of every
 positive b w h z =
     let d = both (leb 48 b) (leb b 57) (both (leb 48 b && leb b 57) (every a-digit w) (h .0) .0) in
     let l : 48 ≤ b = leb-true 48 b (d .0) in
@@ -58,11 +58,11 @@ spelt-written ran-out = (tt, tt)
 spelt-written (a-blank i sp) = spelt-written sp
 spelt-written (a-token i o sp) = (spells-writable i, spelt-written sp)
 
-more-written : (fs : List Field) (ts : List Tok) → Written (printMore fs ts) → OfFields Writable fs × Written ts
+more-written : (fs : List SyntaxField) (ts : List Tok) → Written (print-more fs ts) → OfFields Writable fs × Written ts
 more-written [] ts w = (tt, w .1)
 more-written (f ∷ fs) ts w = let a = more-written fs ts (w .1 .1 .1 .1 .1 .1 .1) in ((w .1 .1 .1 .0, (w .1 .1 .1 .1 .1 .0, a .0)), a .1)
 
-fields-written : (fs : List Field) (ts : List Tok) → Written (printFields fs ts) → OfFields Writable fs × Written ts
+fields-written : (fs : List SyntaxField) (ts : List Tok) → Written (print-fields fs ts) → OfFields Writable fs × Written ts
 fields-written [] ts w = (tt, w .1)
 fields-written (f ∷ fs) ts w = let a = more-written fs ts (w .1 .1 .1 .1 .1 .1) in ((w .1 .1 .0, (w .1 .1 .1 .1 .0, a .0)), a .1)
 
@@ -73,14 +73,14 @@ mutual
   print-written (loop x t) ts w = let a = print-written t ts (w .1 .1 .1) in ((w .1 .0, a .0), a .1)
   print-written (choice v bs) ts w = branches-written bs (arrow v) ts (w .1 .1)
 
-  branches-written : (bs : Br) (σ : ℕ) (ts : List Tok) → Written (printBr bs σ ts) → OfBr Writable bs × Written ts
+  branches-written : (bs : Br) (σ : ℕ) (ts : List Tok) → Written (print-br bs σ ts) → OfBr Writable bs × Written ts
   branches-written (last l fs t) σ ts w =
       let a = fields-written fs (sign 46 ∷ print t (sign 125 ∷ ts)) (w .1 .1 .1) in
       let b = print-written t (sign 125 ∷ ts) (a .1 .1) in
       ((w .1 .0, (a .0, b .0)), b .1 .1)
   branches-written (also l fs t bs) σ ts w =
-      let a = fields-written fs (sign 46 ∷ print t (sign 44 ∷ printBr bs σ ts)) (w .1 .1 .1) in
-      let b = print-written t (sign 44 ∷ printBr bs σ ts) (a .1 .1) in
+      let a = fields-written fs (sign 46 ∷ print t (sign 44 ∷ print-br bs σ ts)) (w .1 .1 .1) in
+      let b = print-written t (sign 44 ∷ print-br bs σ ts) (a .1 .1) in
       let c = branches-written bs σ ts (b .1 .1) in
       ((w .1 .0, (a .0, (b .0, c .0))), c .1)
 
@@ -92,4 +92,4 @@ spellable-exactly t = ((λ h. (spell t, spell-spelt t h)), (λ h. print-written 
 
 -- A legal type that can be written is read from the speller's text, if that is not too long.
 pub spell-read : SpellRead
-spell-read t h l m = read-spelt (spell t) (came-out 0 0 (filled (tableOf t))) .1 (t, m, spell-spelt t h, l, refl) .0
+spell-read t h l m = read-spelt (spell t) (came-out 0 0 (filled (table-of t))) .1 (t, m, spell-spelt t h, l, refl) .0

@@ -5,9 +5,9 @@ use Prim.Native.Nat.{ℕ}
 use native.Mathlib.Omega.{arith}
 use Rattle.table.specs.Lists.{same, matched}
 use Rattle.table.specs.Table.{letter-or-digit}
-use Rattle.text.specs.Token.{classOf, runOf, runEnd, wordKind, word-token, name-token, numberKind, number-token, dots-token, beginAt, tokenAt, tokensFrom, tokens, packed, wordOf}
-use Rattle.text.specs.Number.{signedOf, valueOf}
-use Rattle.text.specs.Grammar.{stop, Tok, sign, printText, tokOf}
+use Rattle.text.specs.Token.{class-of, run-of, run-end, word-kind, word-token, name-token, number-kind, number-token, dots-token, begin-at, token-at, tokens-from, tokens, packed, word-of}
+use Rattle.text.specs.Number.{signed-of, value-of}
+use Rattle.text.specs.Grammar.{stop, Tok, sign, print-text, tok-of}
 use Rattle.text.proofs.Toks.{tag, sign-in}
 use Rattle.spelling.specs.Spelling.{Spelt}
 use Rattle.spelling.specs.Theorems.{WellFormed}
@@ -16,17 +16,17 @@ use Rattle.spelling.proofs.Scan.{spelt-scanned}
 use Rattle.spelling.proofs.Read.{text-formed}
 
 -- a text whose first token is malformed spells nothing
-nothing-spelt : (s : List ℕ) (us ts : List Tok) → map (tokOf s) (tokens s) ≡ sign 1 ∷ us → Spelt s ts → ⊥
+nothing-spelt : (s : List ℕ) (us ts : List Tok) → map (tok-of s) (tokens s) ≡ sign 1 ∷ us → Spelt s ts → ⊥
 nothing-spelt s us ts e sp = let h = spelt-scanned s ts .0 sp in formed (sym (h .0) ∙ e) (h .1)
   where
     formed : {ts : List Tok} → ts ≡ sign 1 ∷ us → WellFormed ts → ⊥
     formed e w = (rw e at w) .0 refl
 
 pub examples : Examples
-unfolding same matched letter-or-digit classOf runOf runEnd wordKind word-token name-token numberKind number-token dots-token beginAt tokenAt tokensFrom tokens wordOf packed signedOf valueOf tokOf
+unfolding same matched letter-or-digit class-of run-of run-end word-kind word-token name-token number-kind number-token dots-token begin-at token-at tokens-from tokens word-of packed signed-of value-of tok-of
 examples = record {
-  protocol = spelt-scanned _ (printText P-type) .1 (refl, text-formed P-type);
-  blanks = spelt-scanned _ (printText stop) .1 (refl, text-formed stop);
+  protocol = spelt-scanned _ (print-text P-type) .1 (refl, text-formed P-type);
+  blanks = spelt-scanned _ (print-text stop) .1 (refl, text-formed stop);
   tab = λ ts. nothing-spelt _ _ ts refl;
   two-tokens = spelt-scanned _ _ .1 (refl, ((λ e. omega (arith, ap tag e)), ((λ e. omega (arith, ap tag e)), ((λ e. omega (arith, ap sign-in e)), tt))));
   eight = spelt-scanned _ _ .1 (refl, ((λ e. omega (arith, ap tag e)), ((λ e. omega (arith, ap sign-in e)), tt)));

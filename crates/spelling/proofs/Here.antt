@@ -13,9 +13,9 @@ use borrow.Author.Tests.{ne-eqb, le-leb, lt-leb, leb-true}
 use Rattle.table.specs.Lists.{every, same, matched}
 use Rattle.table.specs.Table.{upper, letter-or-digit}
 use Rattle.table.proofs.Lists.{both, join, never}
-use Rattle.text.specs.Token.{oneOf, isSpace, classOf, runOf, runEnd, part, token, wordKind, word-token, name-token, numberKind, number-token, dots-token, beginAt, tokenAt, wordOf}
-use Rattle.text.specs.Number.{valueOf, signedOf}
-use Rattle.text.specs.Grammar.{Tok, word, number, sign, tokOf}
+use Rattle.text.specs.Token.{one-of, is-space, class-of, run-of, run-end, part, token, word-kind, word-token, name-token, number-kind, number-token, dots-token, begin-at, token-at, word-of}
+use Rattle.text.specs.Number.{value-of, signed-of}
+use Rattle.text.specs.Grammar.{Tok, word, number, sign, tok-of}
 use Rattle.text.specs.declared.token.Class.{Class}
 use Rattle.text.specs.declared.token.Class.the-variants.{Lower, Upper, Digit, Dot, Minus, Sign}
 use Rattle.text.specs.declared.token.Token.{Token}
@@ -24,14 +24,14 @@ use Rattle.text.proofs.Runs.{run-off}
 use Rattle.text.proofs.Toks.{kind-sign, kind-word, kind-number}
 use Rattle.table.specs.Ascii.{ascii}
 use Rattle.spelling.specs.Spelling.{a-digit, dot, sign-tokens, dot-tokens, word-tokens, Listed, Spells, a-sign, a-dot, a-word, a-name, a-zero, a-number, a-negative, EndsRun}
-use Rattle.spelling.specs.Places.{kindIn}
+use Rattle.spelling.specs.Places.{kind-in}
 use Rattle.spelling.proofs.Classes.{class-upper, class-digit, space-code}
 
 -- ---- runs
 
 -- the longest run is what was meant
-pub run-is : (f : ℕ → Bool) (w r : List ℕ) → every f w ≡ true → EndsRun f r → runOf f (w ++ r) ≡ length w
-unfolding runOf every
+pub run-is : (f : ℕ → Bool) (w r : List ℕ) → every f w ≡ true → EndsRun f r → run-of f (w ++ r) ≡ length w
+unfolding run-of every
 run-is f [] [] e h = refl
 run-is f [] (b ∷ r) e h = rw h
 run-is f (b ∷ w) r e h =
@@ -61,36 +61,36 @@ module _ (s : List ℕ) (p : ℕ) where
     pub past-here : drop (p + length w) s ≡ r
     past-here = sym (drop-drop (length w) p s) ∙ ap (drop (length w)) e ∙ drop-append-seam w r
 
-    pub run-here : (f : ℕ → Bool) → every f w ≡ true → EndsRun f r → runEnd f s p ≡ p + length w
-    unfolding runEnd
+    pub run-here : (f : ℕ → Bool) → every f w ≡ true → EndsRun f r → run-end f s p ≡ p + length w
+    unfolding run-end
     run-here f a h = rw e (ap (λ n. p + n) (run-is f w r a h))
 
     -- the first byte decides how the token begins
-    pub starts : (x : Class) → classOf (getD w 0 0) ≡ x → oneOf (0 ∷ 7 ∷ []) (code x) ≡ false → tokenAt s p ≡ beginAt s p x
-    unfolding tokenAt classOf
+    pub starts : (x : Class) → class-of (getD w 0 0) ≡ x → one-of (0 ∷ 7 ∷ []) (code x) ≡ false → token-at s p ≡ begin-at s p x
+    unfolding token-at class-of
     starts x c h = go w e c
       where
-        no-space : (b : ℕ) → classOf b ≡ x → isSpace b ≡ false
-        no-space b c = decide (isSpace b) refl
+        no-space : (b : ℕ) → class-of b ≡ x → is-space b ≡ false
+        no-space b c = decide (is-space b) refl
           where
-            decide : (y : Bool) → isSpace b ≡ y → y ≡ false
+            decide : (y : Bool) → is-space b ≡ y → y ≡ false
             decide false f = refl
-            decide true f = never (ap (λ (n : ℕ). oneOf (0 ∷ 7 ∷ []) n) (sym (ap code c) ∙ space-code b f)) h
+            decide true f = never (ap (λ (n : ℕ). one-of (0 ∷ 7 ∷ []) n) (sym (ap code c) ∙ space-code b f)) h
 
-        go : (w : List ℕ) → drop p s ≡ w ++ r → classOf (getD w 0 0) ≡ x → tokenAt s p ≡ beginAt s p x
-        go [] e c = never (sym (ap (λ c. oneOf (0 ∷ 7 ∷ []) (code c)) c)) h
+        go : (w : List ℕ) → drop p s ≡ w ++ r → class-of (getD w 0 0) ≡ x → token-at s p ≡ begin-at s p x
+        go [] e c = never (sym (ap (λ c. one-of (0 ∷ 7 ∷ []) (code c)) c)) h
         go (b ∷ v) e c =
             let l : p < length s = inside b (v ++ r) e in
             let at : getD s p 0 ≡ b = byte-here b (v ++ r) e in
-            rw (run-off isSpace s p l (ap isSpace at ∙ no-space b c), lt-leb (length s) p l, at, c)
+            rw (run-off is-space s p l (ap is-space at ∙ no-space b c), lt-leb (length s) p l, at, c)
 
 -- ---- what is found
 
 pub record Found (s : List ℕ) (p : ℕ) (t : Tok) (n : ℕ) : Type 0 where
-  pub is : tokenAt s p ≡ token (kindIn t) p (p + n)
-  pub tok : tokOf s (tokenAt s p) ≡ t
-  pub end : tokenAt s p .end ≡ p + n
-  pub on : tokenAt s p .kind ≡ 0 → ⊥
+  pub is : token-at s p ≡ token (kind-in t) p (p + n)
+  pub tok : tok-of s (token-at s p) ≡ t
+  pub end : token-at s p .end ≡ p + n
+  pub on : token-at s p .kind ≡ 0 → ⊥
 
 -- what holds of each of a list holds of one of them
 abbrev pub Each : (ℕ → List ℕ → Type 0) → List (ℕ × String) → Type 0
@@ -104,76 +104,76 @@ each-listed P (e ∷ es) k w a (inr l) = each-listed P es k w (a .1) l
 
 -- none of the kinds that stand for something else: the text ran out, malformed, a number, a name
 abbrev Plain : ℕ → Type 0
-Plain k = oneOf (0 ∷ 1 ∷ 48 ∷ 65 ∷ []) k ≡ false
+Plain k = one-of (0 ∷ 1 ∷ 48 ∷ 65 ∷ []) k ≡ false
 
-plain-not : (k : ℕ) → Plain k → (n : ℕ) → oneOf (0 ∷ 1 ∷ 48 ∷ 65 ∷ []) n ≡ true → k ≡ n → ⊥
-plain-not k h n f e = never (ap (oneOf (0 ∷ 1 ∷ 48 ∷ 65 ∷ [])) e ∙ f) h
+plain-not : (k : ℕ) → Plain k → (n : ℕ) → one-of (0 ∷ 1 ∷ 48 ∷ 65 ∷ []) n ≡ true → k ≡ n → ⊥
+plain-not k h n f e = never (ap (one-of (0 ∷ 1 ∷ 48 ∷ 65 ∷ [])) e ∙ f) h
 
 -- a sign, a dot, a word: what the scanner makes of each
 abbrev IsSign : ℕ → List ℕ → Type 0
-IsSign k w = (w ≡ k ∷ []) × (classOf k ≡ Sign) × Plain k
+IsSign k w = (w ≡ k ∷ []) × (class-of k ≡ Sign) × Plain k
 
 abbrev IsDot : ℕ → List ℕ → Type 0
-IsDot k w = (every dot w ≡ true) × (classOf (getD w 0 0) ≡ Dot) × (cond (eqb (length w) 1) 46 (cond (eqb (length w) 2) 58 1) ≡ k) × Plain k
+IsDot k w = (every dot w ≡ true) × (class-of (getD w 0 0) ≡ Dot) × (cond (eqb (length w) 1) 46 (cond (eqb (length w) 2) 58 1) ≡ k) × Plain k
 
 abbrev IsWord : ℕ → List ℕ → Type 0
-IsWord k w = (every letter-or-digit w ≡ true) × (classOf (getD w 0 0) ≡ Lower) × (wordKind w ≡ k) × Plain k
+IsWord k w = (every letter-or-digit w ≡ true) × (class-of (getD w 0 0) ≡ Lower) × (word-kind w ≡ k) × Plain k
 
 all-signs : Each IsSign sign-tokens
-unfolding classOf
+unfolding class-of
 all-signs = ((refl, refl, refl), ((refl, refl, refl), ((refl, refl, refl), ((refl, refl, refl), ((refl, refl, refl), ((refl, refl, refl), ((refl, refl, refl), ((refl, refl, refl), ((refl, refl, refl), ((refl, refl, refl), ((refl, refl, refl), tt)))))))))))
 
 all-dots : Each IsDot dot-tokens
-unfolding classOf every
+unfolding class-of every
 all-dots = ((refl, refl, refl, refl), ((refl, refl, refl, refl), tt))
 
 all-words : Each IsWord word-tokens
-unfolding classOf every letter-or-digit wordKind same matched
+unfolding class-of every letter-or-digit word-kind same matched
 all-words = ((refl, refl, refl, refl), ((refl, refl, refl, refl), ((refl, refl, refl, refl), ((refl, refl, refl, refl), ((refl, refl, refl, refl), tt)))))
 
 module _ (s : List ℕ) (p : ℕ) where
   -- a token found, as the grammar sees it
-  found-sign : (k n : ℕ) → tokenAt s p ≡ token k p (p + n) → Plain k → Found s p (sign k) n
+  found-sign : (k n : ℕ) → token-at s p ≡ token k p (p + n) → Plain k → Found s p (sign k) n
   found-sign k n e h = record {
     is = e;
-    tok = ap (tokOf s) e ∙ kind-sign s (token k p (p + n)) k (plain-not k h 65 refl) (plain-not k h 48 refl) refl;
+    tok = ap (tok-of s) e ∙ kind-sign s (token k p (p + n)) k (plain-not k h 65 refl) (plain-not k h 48 refl) refl;
     end = ap (λ (t : Token). t .end) e;
     on = λ z. plain-not k h 0 refl (sym (ap (λ (t : Token). t .kind) e) ∙ z);
   }
 
-  found-number : (w r : List ℕ) → drop p s ≡ w ++ r → tokenAt s p ≡ token 48 p (p + length w) → Found s p (number (signedOf w)) (length w)
+  found-number : (w r : List ℕ) → drop p s ≡ w ++ r → token-at s p ≡ token 48 p (p + length w) → Found s p (number (signed-of w)) (length w)
   found-number w r d e = record {
     is = e;
-    tok = ap (tokOf s) e ∙ kind-number s (token 48 p (p + length w)) refl ∙ ap (λ (v : List ℕ). number (signedOf v)) (part-here s p w r d);
+    tok = ap (tok-of s) e ∙ kind-number s (token 48 p (p + length w)) refl ∙ ap (λ (v : List ℕ). number (signed-of v)) (part-here s p w r d);
     end = ap (λ (t : Token). t .end) e;
     on = λ z. let h : _≡_ {A = ℕ} 48 0 = sym (ap (λ (t : Token). t .kind) e) ∙ z in omega arith;
   }
 
-  found-word : (w r : List ℕ) → drop p s ≡ w ++ r → tokenAt s p ≡ token 65 p (p + length w) → Found s p (word (wordOf w)) (length w)
+  found-word : (w r : List ℕ) → drop p s ≡ w ++ r → token-at s p ≡ token 65 p (p + length w) → Found s p (word (word-of w)) (length w)
   found-word w r d e = record {
     is = e;
-    tok = ap (tokOf s) e ∙ kind-word s (token 65 p (p + length w)) refl ∙ ap (λ (v : List ℕ). word (wordOf v)) (part-here s p w r d);
+    tok = ap (tok-of s) e ∙ kind-word s (token 65 p (p + length w)) refl ∙ ap (λ (v : List ℕ). word (word-of v)) (part-here s p w r d);
     end = ap (λ (t : Token). t .end) e;
     on = λ z. let h : _≡_ {A = ℕ} 65 0 = sym (ap (λ (t : Token). t .kind) e) ∙ z in omega arith;
   }
 
   module _ (w r : List ℕ) (e : drop p s ≡ w ++ r) where
     sign-found : (k : ℕ) → IsSign k w → Found s p (sign k) (length w)
-    unfolding beginAt
+    unfolding begin-at
     sign-found k h =
         let d : drop p s ≡ k ∷ r = e ∙ ap (λ (v : List ℕ). v ++ r) (h .0) in
         let n : length w ≡ 1 = ap length (h .0) in
         rw n (found-sign k 1 (starts s p (k ∷ []) r d Sign (h .1) refl ∙ ap (λ (b : ℕ). token b p (p + 1)) (byte-here s p k r d)) (h .2))
 
     dot-found : (k : ℕ) → IsDot k w → EndsRun dot r → Found s p (sign k) (length w)
-    unfolding beginAt dots-token
+    unfolding begin-at dots-token
     dot-found k h o =
         let z : p + length w - p ≡ length w = omega arith in
         found-sign k (length w)
         (starts s p w r e Dot (h .1) refl ∙ rw (run-here s p w r e dot (h .0) o, z) (ap (λ (k : ℕ). token k p (p + length w)) (h .2))) (h .3)
 
     word-found : (k : ℕ) → IsWord k w → EndsRun letter-or-digit r → Found s p (sign k) (length w)
-    unfolding beginAt word-token
+    unfolding begin-at word-token
     word-found k h o =
         found-sign k (length w)
         (starts s p w r e Lower (h .1) refl
@@ -181,8 +181,8 @@ module _ (s : List ℕ) (p : ℕ) where
         (h .3)
 
   name-found : (b : ℕ) (w r : List ℕ) → drop p s ≡ (b ∷ w) ++ r → upper b ≡ true → every letter-or-digit (b ∷ w) ≡ true → length (b ∷ w) ≤ 8 → EndsRun letter-or-digit r
-      → Found s p (word (wordOf (b ∷ w))) (length (b ∷ w))
-  unfolding beginAt name-token
+      → Found s p (word (word-of (b ∷ w))) (length (b ∷ w))
+  unfolding begin-at name-token
   name-found b w r e u a m o =
       let z : p + length (b ∷ w) - p ≡ length (b ∷ w) = omega arith in
       found-word (b ∷ w) r e
@@ -191,8 +191,8 @@ module _ (s : List ℕ) (p : ℕ) where
 
   -- digits from here on: 0 alone, or no 0 at the front
   digits-found : (b : ℕ) (w r : List ℕ) → drop p s ≡ (b ∷ w) ++ r → every a-digit (b ∷ w) ≡ true → _≡_ {A = ℕ} (cond (eqb b 48) (cond (eqb (length (b ∷ w)) 1) 48 1) 48) 48 → EndsRun a-digit r
-      → Found s p (number (signedOf (b ∷ w))) (length (b ∷ w))
-  unfolding beginAt number-token numberKind every
+      → Found s p (number (signed-of (b ∷ w))) (length (b ∷ w))
+  unfolding begin-at number-token number-kind every
   digits-found b w r e a h o =
       let z : p + length (b ∷ w) - p ≡ length (b ∷ w) = omega arith in
       found-number (b ∷ w) r e
@@ -202,8 +202,8 @@ module _ (s : List ℕ) (p : ℕ) where
 
   -- a minus and digits, no 0 at the front
   minus-found : (b : ℕ) (w r : List ℕ) → drop p s ≡ (45 ∷ b ∷ w) ++ r → every a-digit (b ∷ w) ≡ true → (b ≡ 48 → ⊥) → EndsRun a-digit r
-      → Found s p (number (signedOf (45 ∷ b ∷ w))) (length (45 ∷ b ∷ w))
-  unfolding beginAt number-token numberKind classOf
+      → Found s p (number (signed-of (45 ∷ b ∷ w))) (length (45 ∷ b ∷ w))
+  unfolding begin-at number-token number-kind class-of
   minus-found b w r e a h o =
       let n : drop (p + 1) s ≡ (b ∷ w) ++ r = next-here s p 45 ((b ∷ w) ++ r) e in
       let z : p + 1 + length (b ∷ w) ≡ p + length (45 ∷ b ∷ w) = omega arith in
@@ -212,15 +212,15 @@ module _ (s : List ℕ) (p : ℕ) where
       ∙ rw (run-here s (p + 1) (b ∷ w) r n a-digit a o, ne-eqb (p + 1 + length (b ∷ w)) (p + 1) (λ q. omega arith), byte-here s (p + 1) b (w ++ r) n, ne-eqb b 48 h, z))
 
 -- digits are no minus
-digit-value : (b : ℕ) (w : List ℕ) → a-digit b ≡ true → signedOf (b ∷ w) ≡ record { minus = false; value = valueOf 0 (b ∷ w) }
-unfolding signedOf
+digit-value : (b : ℕ) (w : List ℕ) → a-digit b ≡ true → signed-of (b ∷ w) ≡ record { minus = false; value = value-of 0 (b ∷ w) }
+unfolding signed-of
 digit-value b w e =
     let h : 48 ≤ b = leb-true 48 b (both (leb 48 b) (leb b 57) e .0) in
     rw (ne-eqb b 45 (λ q. omega arith))
 
 -- a token's bytes are found as the token
 pub found : (s : List ℕ) (p : ℕ) {t : Tok} {w : List ℕ} {more : ℕ → Bool} (r : List ℕ) → Spells t w more → EndsRun more r → drop p s ≡ w ++ r → Found s p t (length w)
-unfolding every signedOf valueOf
+unfolding every signed-of value-of
 found s p r (a-sign {k} {w} l) o e = sign-found s p w r e k (each-listed IsSign sign-tokens k w all-signs l)
 found s p r (a-dot {k} {w} l) o e = dot-found s p w r e k (each-listed IsDot dot-tokens k w all-dots l) o
 found s p r (a-word {k} {w} l) o e = word-found s p w r e k (each-listed IsWord word-tokens k w all-words l) o

@@ -4,17 +4,17 @@ use mathlib.Core.Path.{_≡_, refl, sym, ap, _∙_}
 use mathlib.Core.Bool.{true}
 use mathlib.Core.List.{List, [], _∷_}
 use Prim.Native.Nat.{ℕ, zero, suc}
+use Rattle.table.specs.Ascii.{letters}
 use Rattle.table.specs.Lists.{every}
 use Rattle.table.specs.Table.{letter-or-digit}
-use Rattle.table.specs.View.{labelOf}
+use Rattle.table.specs.View.{label-of}
 use Rattle.table.proofs.Lists.{both, join}
 use Rattle.table.proofs.Labels.{label-bytes}
-use Rattle.text.specs.Token.{packed, wordOf}
+use Rattle.text.specs.Token.{packed, word-of}
 use Rattle.text.specs.Filled.{padded}
 use Rattle.text.proofs.Bytes.{upper-word}
 use Rattle.text.proofs.Packed.{packed-bytes, letters-small}
 use Rattle.spelling.specs.Spelling.{Name}
-use Rattle.spelling.specs.Speller.{trim}
 use Rattle.spelling.specs.Theorems.{NameBytes, NameBack, NameOnce}
 use Rattle.spelling.proofs.Spell.{letter-not-zero}
 
@@ -25,19 +25,19 @@ name-letters (b ∷ w) h = join (upper-word b (h .0)) (h .1)
 
 -- the word of a name is its bytes, filled up with 0x00
 pub name-bytes : NameBytes
-unfolding wordOf
+unfolding word-of
 name-bytes [] h = absurd h
 name-bytes (b ∷ w) h = label-bytes (packed 8 (b ∷ w)) ∙ packed-bytes 8 (b ∷ w) (letters-small (b ∷ w) (name-letters (b ∷ w) h)) (h .2)
 
-trim-letters : (w : List ℕ) → every letter-or-digit w ≡ true → trim w ≡ w
-unfolding trim every
+trim-letters : (w : List ℕ) → every letter-or-digit w ≡ true → letters w ≡ w
+unfolding letters every
 trim-letters [] e = refl
 trim-letters (b ∷ w) e =
     let p = both (letter-or-digit b) (every letter-or-digit w) e in
     rw (letter-not-zero b (p .0)) (ap (λ (l : List ℕ). b ∷ l) (trim-letters w (p .1)))
 
-trim-padded : (n : ℕ) (w : List ℕ) → every letter-or-digit w ≡ true → trim (padded n w) ≡ w
-unfolding trim every
+trim-padded : (n : ℕ) (w : List ℕ) → every letter-or-digit w ≡ true → letters (padded n w) ≡ w
+unfolding letters every
 trim-padded zero w e = trim-letters w e
 trim-padded (suc n) [] e = refl
 trim-padded (suc n) (b ∷ w) e =
@@ -46,8 +46,8 @@ trim-padded (suc n) (b ∷ w) e =
 
 -- the bytes of a name from its word
 pub name-back : NameBack
-name-back w h = ap trim (name-bytes w h) ∙ trim-padded 8 w (name-letters w h)
+name-back w h = ap letters (name-bytes w h) ∙ trim-padded 8 w (name-letters w h)
 
 -- Two names are the same exactly when their bytes are.
 pub name-once : NameOnce
-name-once v w h i = ((λ e. sym (name-back v h) ∙ ap (λ (x : ℕ). trim (labelOf x)) e ∙ name-back w i), (λ e. ap wordOf e))
+name-once v w h i = ((λ e. sym (name-back v h) ∙ ap (λ (x : ℕ). letters (label-of x)) e ∙ name-back w i), (λ e. ap word-of e))

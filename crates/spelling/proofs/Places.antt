@@ -11,17 +11,17 @@ use lib.ListN.{length, drop, length-drop, length-append}
 use borrow.Author.Tests.{eq-eqb, ne-eqb, eqb-true, eqb-false}
 use Rattle.table.specs.Lists.{first-no}
 use Rattle.text.proofs.Asked.{asked}
-use Rattle.text.specs.Token.{classOf, token, word-token, name-token, number-token, dots-token, beginAt, tokenAt, tokensFrom, tokens}
+use Rattle.text.specs.Token.{class-of, token, word-token, name-token, number-token, dots-token, begin-at, token-at, tokens-from, tokens}
 use Rattle.text.specs.Building.{Built, denied}
 use Rattle.text.specs.Filled.{written}
-use Rattle.text.specs.Reading.{State, start, wellFormed, taken, run-tokens, built, reads, questions}
+use Rattle.text.specs.Reading.{State, start, token-formed, taken, run-tokens, built, reads, questions}
 use Rattle.text.specs.Grammar.{text-limit, Tok}
 use Rattle.text.specs.declared.token.Class.{Class}
 use Rattle.text.specs.declared.token.Class.the-variants.{Space, Lower, Upper, Digit, Dot, Minus, Sign, Other}
 use Rattle.text.specs.declared.token.Token.{Token}
 use Rattle.text.proofs.Toks.{kind-sign}
 use Rattle.spelling.specs.Spelling.{blank, Spells}
-use Rattle.spelling.specs.Places.{Begins, kindIn, Placed, ran-out, malformed, a-blank, a-token}
+use Rattle.spelling.specs.Places.{Begins, kind-in, Placed, ran-out, malformed, a-blank, a-token}
 use Rattle.spelling.specs.Theorems.{ReadPlaced}
 use Rattle.spelling.proofs.Classes.{seen}
 use Rattle.spelling.proofs.Here.{inside, next-here, past-here, Found, found}
@@ -33,11 +33,11 @@ upto-bad [] = []
 upto-bad (k ∷ ks) = cond (eqb (k .kind) 1) (token 1 (k .start) (k .start) ∷ []) (k ∷ upto-bad ks)
 
 abbrev upto : ℕ → List ℕ → ℕ → List Token
-upto n s p = upto-bad (tokensFrom n s p)
+upto n s p = upto-bad (tokens-from n s p)
 
 module _ (s : List ℕ) where
-  begin-start : (p : ℕ) (x : Class) → beginAt s p x .start ≡ p
-  unfolding beginAt word-token name-token number-token dots-token
+  begin-start : (p : ℕ) (x : Class) → begin-at s p x .start ≡ p
+  unfolding begin-at word-token name-token number-token dots-token
   begin-start p Space = refl
   begin-start p Lower = refl
   begin-start p Upper = refl
@@ -48,11 +48,11 @@ module _ (s : List ℕ) where
   begin-start p Other = refl
 
   -- a token that is spelt is not malformed
-  not-bad : (p n : ℕ) {t : Tok} {w : List ℕ} {more : ℕ → Bool} → Spells t w more → Found s p t n → eqb (tokenAt s p .kind) 1 ≡ false
-  not-bad p n i f = ne-eqb _ _ (λ k. spells-formed i (sym (f .tok) ∙ kind-sign s (tokenAt s p) 1 (λ q. omega arith) (λ q. omega arith) k))
+  not-bad : (p n : ℕ) {t : Tok} {w : List ℕ} {more : ℕ → Bool} → Spells t w more → Found s p t n → eqb (token-at s p .kind) 1 ≡ false
+  not-bad p n i f = ne-eqb _ _ (λ k. spells-formed i (sym (f .tok) ∙ kind-sign s (token-at s p) 1 (λ q. omega arith) (λ q. omega arith) k))
 
   upto-on : (n p : ℕ) {t : Tok} {w : List ℕ} {more : ℕ → Bool} → Spells t w more → Found s p t (length w)
-      → upto (suc n) s p ≡ token (kindIn t) p (p + length w) ∷ upto n s (p + length w)
+      → upto (suc n) s p ≡ token (kind-in t) p (p + length w) ∷ upto n s (p + length w)
   unfolding upto-bad
   upto-on n p {t} {w} i f =
       ap upto-bad (onwards s n p t (length w) f)
@@ -64,15 +64,15 @@ module _ (s : List ℕ) where
       let z : length s ≡ p = omega (arith, length-drop p s, ap length e) in
       ap upto-bad (at-end s n p e) ∙ rw z
 
-  upto-here : (n p : ℕ) → tokenAt s p .kind ≡ 1 → tokenAt s p .start ≡ p → upto (suc n) s p ≡ token 1 p p ∷ []
-  unfolding upto-bad tokensFrom
-  upto-here n p k h = rw (eq-eqb (tokenAt s p .kind) 1 k) (ap (λ (q : ℕ). token 1 q q ∷ []) h)
+  upto-here : (n p : ℕ) → token-at s p .kind ≡ 1 → token-at s p .start ≡ p → upto (suc n) s p ≡ token 1 p p ∷ []
+  unfolding upto-bad tokens-from
+  upto-here n p k h = rw (eq-eqb (token-at s p .kind) 1 k) (ap (λ (q : ℕ). token 1 q q ∷ []) h)
 
-  starts-here : (p b : ℕ) (v : List ℕ) → drop p s ≡ b ∷ v → blank b ≡ false → tokenAt s p .start ≡ p
-  starts-here p b v e i = ap (λ (k : Token). k .start) (begin-here s p b v e i) ∙ begin-start p (classOf b)
+  starts-here : (p b : ℕ) (v : List ℕ) → drop p s ≡ b ∷ v → blank b ≡ false → token-at s p .start ≡ p
+  starts-here p b v e i = ap (λ (k : Token). k .start) (begin-here s p b v e i) ∙ begin-start p (class-of b)
 
-  begins-here : (p b : ℕ) (v : List ℕ) → drop p s ≡ b ∷ v → blank b ≡ false → (tokenAt s p .kind ≡ 1 → ⊥) → Begins (b ∷ v)
-  begins-here p b v e i h = begins s p b v e (classOf b) (seen b) (λ q. h (ap (λ (k : Token). k .kind) (begin-here s p b v e i) ∙ q))
+  begins-here : (p b : ℕ) (v : List ℕ) → drop p s ≡ b ∷ v → blank b ≡ false → (token-at s p .kind ≡ 1 → ⊥) → Begins (b ∷ v)
+  begins-here p b v e i h = begins s p b v e (class-of b) (seen b) (λ q. h (ap (λ (k : Token). k .kind) (begin-here s p b v e i) ∙ q))
 
   within : (p : ℕ) (w r : List ℕ) → drop p s ≡ w ++ r → p ≤ length s → p + length w ≤ length s
   within p w r e h = omega (arith, length-drop p s, ap length e, length-append w r)
@@ -81,9 +81,9 @@ module _ (s : List ℕ) where
   placed-upto ran-out zero e l h = absurd (omega arith)
   placed-upto (ran-out {p}) (suc n) e l h = upto-end n p l e
   placed-upto (malformed i never) zero e l h = absurd (omega arith)
-  placed-upto (malformed {b} {p} {s = v} i never) (suc n) e l h = go (eqb (tokenAt s p .kind) 1) refl
+  placed-upto (malformed {b} {p} {s = v} i never) (suc n) e l h = go (eqb (token-at s p .kind) 1) refl
     where
-      go : (c : Bool) → eqb (tokenAt s p .kind) 1 ≡ c → upto (suc n) s p ≡ token 1 p p ∷ []
+      go : (c : Bool) → eqb (token-at s p .kind) 1 ≡ c → upto (suc n) s p ≡ token 1 p p ∷ []
       go true f = upto-here n p (eqb-true _ _ f) (starts-here p b v e i)
       go false f = absurd (never (begins-here p b v e i (eqb-false _ _ f)))
   placed-upto (a-blank {b} {p} {s = v} i pl) n e l h =
@@ -93,7 +93,7 @@ module _ (s : List ℕ) where
   placed-upto (a-token {t} {w} {s = r} {p = p} i o pl) (suc n) e l h =
       let f = found s p r i o e in
       upto-on n p i f
-      ∙ ap (λ (ks : List Token). token (kindIn t) p (p + length w) ∷ ks) (placed-upto pl n (past-here s p w r e) (within p w r e l) (left s n p w r t e f h))
+      ∙ ap (λ (ks : List Token). token (kind-in t) p (p + length w) ∷ ks) (placed-upto pl n (past-here s p w r e) (within p w r e l) (left s n p w r t e f h))
 
   step : (m n p : ℕ) → ((n p : ℕ) → p ≤ length s → length s - p < m → length s - p < n → Placed (drop p s) p (upto n s p))
       → p ≤ length s → length s - p < suc m → length s - p < suc n → Placed (drop p s) p (upto (suc n) s p)
@@ -107,12 +107,12 @@ module _ (s : List ℕ) where
           blanks true g =
               let m : p < length s = inside s p b v e in
               rw (e, skips s (suc n) p b v e g) (a-blank g (rw (next-here s p b v e) at (ih (suc n) (p + 1) (omega arith) (omega arith) (omega arith))))
-          blanks false g = decide (eqb (tokenAt s p .kind) 1) refl
+          blanks false g = decide (eqb (token-at s p .kind) 1) refl
             where
-              decide : (c : Bool) → eqb (tokenAt s p .kind) 1 ≡ c → Placed (drop p s) p (upto (suc n) s p)
+              decide : (c : Bool) → eqb (token-at s p .kind) 1 ≡ c → Placed (drop p s) p (upto (suc n) s p)
               decide true f =
                   rw (e, upto-here n p (eqb-true _ _ f) (starts-here p b v e g))
-                  (malformed g (λ (a : Begins (b ∷ v)). eqb-false (tokenAt s p .kind) 1 (not-bad p (length (a .w)) (a .spells) (found s p (a .rest) (a .spells) (a .ends) (e ∙ a .is))) (eqb-true (tokenAt s p .kind) 1 f)))
+                  (malformed g (λ (a : Begins (b ∷ v)). eqb-false (token-at s p .kind) 1 (not-bad p (length (a .w)) (a .spells) (found s p (a .rest) (a .spells) (a .ends) (e ∙ a .is))) (eqb-true (token-at s p .kind) 1 f)))
               decide false f = next (begins-here p b v e g (eqb-false _ _ f))
                 where
                   next : Begins (b ∷ v) → Placed (drop p s) p (upto (suc n) s p)
@@ -132,7 +132,7 @@ module _ (s : List ℕ) where
 -- ---- reading asks of no token after a malformed one
 
 asked-bad : (s : List ℕ) (st : State) (k : Token) → eqb (k .kind) 1 ≡ true → asked s st k ≡ 2
-unfolding first-no questions wellFormed
+unfolding first-no questions token-formed
 asked-bad s st k e = rw e
 
 run-upto : (s : List ℕ) (ks : List Token) (st : State) → run-tokens s st ks ≡ run-tokens s st (upto-bad ks)

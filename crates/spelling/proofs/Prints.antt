@@ -4,9 +4,9 @@ use mathlib.Core.Path.{_≡_, refl}
 use mathlib.Core.Bool.{true}
 use mathlib.Core.List.{List, [], _∷_, _++_}
 use Prim.Native.Nat.{ℕ}
-use Rattle.text.specs.Token.{oneOf}
+use Rattle.text.specs.Token.{one-of}
 use Rattle.text.specs.Number.{Signed}
-use Rattle.text.specs.Grammar.{Way, sends, receives, Kind, int, text, flag, Field, Ty, stop, var, loop, choice, Br, last, also, Tok, word, number, sign, mark, arrow, letter, printField, printMore, printFields, printHead, print, printBr}
+use Rattle.text.specs.Grammar.{Way, sending, receiving, Kind, int, text, flag, SyntaxField, Ty, stop, var, loop, choice, Br, last, also, Tok, word, number, sign, mark, arrow, letter, print-field, print-more, print-fields, print-head, print, print-br}
 use Rattle.spelling.specs.Spelling.{sign-tokens, dot-tokens, word-tokens}
 use Rattle.spelling.specs.Speller.{OfFields, Of, OfBr}
 use Rattle.spelling.proofs.Classes.{kinds}
@@ -15,30 +15,30 @@ use Rattle.spelling.proofs.Classes.{kinds}
 abbrev pub fixed : List ℕ
 fixed = kinds (sign-tokens ++ dot-tokens ++ word-tokens)
 
-is-mark : (w : Way) → (oneOf fixed (mark w) ≡ true) × (oneOf fixed (arrow w) ≡ true)
-is-mark sends = (refl, refl)
-is-mark receives = (refl, refl)
+is-mark : (w : Way) → (one-of fixed (mark w) ≡ true) × (one-of fixed (arrow w) ≡ true)
+is-mark sending = (refl, refl)
+is-mark receiving = (refl, refl)
 
-is-kind : (k : Kind) → oneOf fixed (letter k) ≡ true
+is-kind : (k : Kind) → one-of fixed (letter k) ≡ true
 is-kind int = refl
 is-kind text = refl
 is-kind flag = refl
 
 module _ (P : Tok → Type 0) (Q : List Tok → Type 0) (word-on : (x : ℕ) (ts : List Tok) → P (word x) → Q ts → Q (word x ∷ ts))
     (number-on : (n : Signed) (ts : List Tok) → P (number n) → Q ts → Q (number n ∷ ts))
-    (put : (k : ℕ) (ts : List Tok) → oneOf fixed k ≡ true → Q ts → Q (sign k ∷ ts)) where
-  field-holds : (f : Field) (ts : List Tok) → P (number (f .low)) → P (number (f .high)) → Q ts → Q (printField f ts)
+    (put : (k : ℕ) (ts : List Tok) → one-of fixed k ≡ true → Q ts → Q (sign k ∷ ts)) where
+  field-holds : (f : SyntaxField) (ts : List Tok) → P (number (f .low)) → P (number (f .high)) → Q ts → Q (print-field f ts)
   field-holds f ts l h q = put _ _ (is-kind (f .kind)) (put _ _ refl (number-on _ _ l (put _ _ refl (number-on _ _ h (put _ _ refl q)))))
 
-  more-hold : (fs : List Field) (ts : List Tok) → OfFields P fs → Q ts → Q (printMore fs ts)
+  more-hold : (fs : List SyntaxField) (ts : List Tok) → OfFields P fs → Q ts → Q (print-more fs ts)
   more-hold [] ts o q = put _ _ refl q
   more-hold (f ∷ fs) ts o q = put _ _ refl (field-holds f _ (o .0) (o .1 .0) (more-hold fs ts (o .1 .1) q))
 
-  fields-hold : (fs : List Field) (ts : List Tok) → OfFields P fs → Q ts → Q (printFields fs ts)
+  fields-hold : (fs : List SyntaxField) (ts : List Tok) → OfFields P fs → Q ts → Q (print-fields fs ts)
   fields-hold [] ts o q = put _ _ refl q
   fields-hold (f ∷ fs) ts o q = field-holds f _ (o .0) (o .1 .0) (more-hold fs ts (o .1 .1) q)
 
-  head-holds : (σ l : ℕ) (fs : List Field) (ts : List Tok) → oneOf fixed σ ≡ true → P (word l) → OfFields P fs → Q ts → Q (printHead σ l fs ts)
+  head-holds : (σ l : ℕ) (fs : List SyntaxField) (ts : List Tok) → one-of fixed σ ≡ true → P (word l) → OfFields P fs → Q ts → Q (print-head σ l fs ts)
   head-holds σ l fs ts e p o q = put _ _ e (word-on _ _ p (put _ _ refl (fields-hold fs _ o (put _ _ refl q))))
 
   mutual
@@ -48,14 +48,14 @@ module _ (P : Tok → Type 0) (Q : List Tok → Type 0) (word-on : (x : ℕ) (ts
     print-holds (loop x t) ts o q = put _ _ refl (word-on _ _ (o .0) (put _ _ refl (print-holds t ts (o .1) q)))
     print-holds (choice w bs) ts o q = put _ _ (is-mark w .0) (put _ _ refl (branches-hold bs (arrow w) ts (is-mark w .1) o q))
 
-    branches-hold : (bs : Br) (σ : ℕ) (ts : List Tok) → oneOf fixed σ ≡ true → OfBr P bs → Q ts → Q (printBr bs σ ts)
+    branches-hold : (bs : Br) (σ : ℕ) (ts : List Tok) → one-of fixed σ ≡ true → OfBr P bs → Q ts → Q (print-br bs σ ts)
     branches-hold (last l fs t) σ ts e o q = head-holds σ l fs _ e (o .0) (o .1 .0) (print-holds t _ (o .1 .1) (put _ _ refl q))
     branches-hold (also l fs t bs) σ ts e o q =
         head-holds σ l fs _ e (o .0) (o .1 .0) (print-holds t _ (o .1 .1 .0) (put _ _ refl (branches-hold bs σ ts e (o .1 .1 .1) q)))
 
 -- what holds of all of them
 module _ (P : Tok → Type 0) (w : (x : ℕ) → P (word x)) (n : (x : Signed) → P (number x)) where
-  of-fields : (fs : List Field) → OfFields P fs
+  of-fields : (fs : List SyntaxField) → OfFields P fs
   of-fields [] = tt
   of-fields (f ∷ fs) = (n (f .low), (n (f .high), of-fields fs))
 

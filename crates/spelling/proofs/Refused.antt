@@ -16,7 +16,7 @@ use Rattle.text.specs.Token.{token, tokens}
 use Rattle.text.specs.Building.{denied}
 use Rattle.text.specs.Filled.{Reading, refused, written}
 use Rattle.text.specs.Reading.{start, run-tokens, built, reads}
-use Rattle.text.specs.Grammar.{Ty, Tok, word, number, sign, printText, tokOf}
+use Rattle.text.specs.Grammar.{Ty, Tok, word, number, sign, print-text, tok-of}
 use Rattle.text.specs.declared.token.Token.{Token}
 use Rattle.text.proofs.Toks.{kind-sign}
 use Rattle.text.proofs.Becomes.{MadeUp}
@@ -47,10 +47,10 @@ run-read u h = go (leb (length u) 8192) h
 
 -- the same tokens, however they are split
 here-same : (s : List ℕ) (p : ℕ) (a b : At s p) (ts : List Tok) → upto-here a ts ≡ upto-here b ts
-here-same s p a b ts = let h = at-once s p a b in ap₂ (λ ks k. map (tokOf s) ks ++ (tokOf s k ∷ ts)) (h .0) (h .1)
+here-same s p a b ts = let h = at-once s p a b in ap₂ (λ ks k. map (tok-of s) ks ++ (tok-of s k ∷ ts)) (h .0) (h .1)
 
 before-same : (s : List ℕ) (p : ℕ) (a b : At s p) (ts : List Tok) → upto-before a ts ≡ upto-before b ts
-before-same s p a b ts = ap (λ ks. map (tokOf s) ks ++ ts) (at-once s p a b .0)
+before-same s p a b ts = ap (λ ks. map (tok-of s) ks ++ ts) (at-once s p a b .0)
 
 pub refused-means : RefusedMeans
 unfolding refused denied
@@ -73,17 +73,17 @@ refused-means s q p l h = let r = read-placed s (refused q p) .0 h in go (r .0) 
 
 -- ---- by 3
 
-bad-sign : (s : List ℕ) (k : Token) → k .kind ≡ 1 → tokOf s k ≡ sign 1
+bad-sign : (s : List ℕ) (k : Token) → k .kind ≡ 1 → tok-of s k ≡ sign 1
 bad-sign s k e = kind-sign s k 1 (λ q. omega arith) (λ q. omega arith) e
 
 -- the tokens that stand in a text can be written
-placed-written : (s : List ℕ) {u : List ℕ} {p : ℕ} {ks : List Token} → Placed u p ks → drop p s ≡ u → Written (map (tokOf s) ks)
+placed-written : (s : List ℕ) {u : List ℕ} {p : ℕ} {ks : List Token} → Placed u p ks → drop p s ≡ u → Written (map (tok-of s) ks)
 placed-written s (ran-out {p}) e = rw (kind-sign s (token 0 p p) 0 (λ q. omega arith) (λ q. omega arith) refl) (tt, tt)
 placed-written s (malformed {b} {p} i never) e = rw (bad-sign s (token 1 p p) refl) (tt, tt)
 placed-written s (a-blank {b} {p} {s = v} i pl) e = placed-written s pl (next-here s p b v e)
 placed-written s (a-token {t} {w} {s = r} {p = p} i o pl) e =
     let f = found s p r i o e in
-    (subst Writable (sym (sym (ap (tokOf s) (f .is)) ∙ f .tok)) (spells-writable i), placed-written s pl (past-here s p w r e))
+    (subst Writable (sym (sym (ap (tok-of s) (f .is)) ∙ f .tok)) (spells-writable i), placed-written s pl (past-here s p w r e))
 
 made-up-written : (ts : List Tok) → MadeUp ts → Written ts
 unfolding upper every
@@ -102,21 +102,21 @@ front-formed : (ts us : List Tok) → WellFormed (ts ++ us) → WellFormed ts
 front-formed [] us w = tt
 front-formed (t ∷ ts) us w = (w .0, front-formed ts us (w .1))
 
-map-append : (s : List ℕ) (ks js : List Token) → map (tokOf s) (ks ++ js) ≡ map (tokOf s) ks ++ map (tokOf s) js
+map-append : (s : List ℕ) (ks js : List Token) → map (tok-of s) (ks ++ js) ≡ map (tok-of s) ks ++ map (tok-of s) js
 map-append s [] js = refl
-map-append s (k ∷ ks) js = ap (λ (l : List Tok). tokOf s k ∷ l) (map-append s ks js)
+map-append s (k ∷ ks) js = ap (λ (l : List Tok). tok-of s k ∷ l) (map-append s ks js)
 
-upto-front : (s : List ℕ) (ks js : List Token) → WellFormed (map (tokOf s) ks) → upto-bad (ks ++ js) ≡ ks ++ upto-bad js
+upto-front : (s : List ℕ) (ks js : List Token) → WellFormed (map (tok-of s) ks) → upto-bad (ks ++ js) ≡ ks ++ upto-bad js
 unfolding upto-bad
 upto-front s [] js w = refl
 upto-front s (k ∷ ks) js w = rw (ne-eqb (k .kind) 1 (λ e. w .0 (bad-sign s k e))) (ap (λ (l : List Token). k ∷ l) (upto-front s ks js (w .1)))
 
 -- the tokens before, and others made up, are those of a text
-text-made : (s : List ℕ) (p : ℕ) (a : At s p) (t : Ty) (us : List Tok) → MadeUp us → printText t ≡ upto-before a us
-    → (u : List ℕ) × (t : Ty) × (ts : List Tok) × Spelt u (printText t) × (printText t ≡ upto-before a ts)
+text-made : (s : List ℕ) (p : ℕ) (a : At s p) (t : Ty) (us : List Tok) → MadeUp us → print-text t ≡ upto-before a us
+    → (u : List ℕ) × (t : Ty) × (ts : List Tok) × Spelt u (print-text t) × (print-text t ≡ upto-before a ts)
 text-made s p a t us m e =
     let w = rw (map-append s (a .before) (a .here ∷ a .rest)) at (placed-written s (a .split) refl) in
-    let v = front-written (map (tokOf s) (a .before)) _ us w (made-up-written us m) in
+    let v = front-written (map (tok-of s) (a .before)) _ us w (made-up-written us m) in
     (spell t, t, us, spell-spelt t (print-written t (sign 0 ∷ []) (subst Written (sym e) v) .0), e)
 
 pub three-means : ThreeMeans
@@ -124,29 +124,29 @@ unfolding upto-bad
 three-means s p h a = go (three s p h)
   where
     go : Forbidden s p
-        → ((t : Ty) (ts : List Tok) → printText t ≡ upto-here a ts → ⊥)
-        × ((u : List ℕ) × (t : Ty) × (ts : List Tok) × Spelt u (printText t) × (printText t ≡ upto-before a ts))
+        → ((t : Ty) (ts : List Tok) → print-text t ≡ upto-here a ts → ⊥)
+        × ((u : List ℕ) × (t : Ty) × (ts : List Tok) × Spelt u (print-text t) × (print-text t ≡ upto-before a ts))
     go f = decide (eqb (f .here .kind) 1) refl
       where
-        formed : WellFormed (map (tokOf s) (f .before))
-        formed = front-formed (map (tokOf s) (f .before)) (f .some .1) (subst WellFormed (f .some .2) (text-formed (f .some .0)))
+        formed : WellFormed (map (tok-of s) (f .before))
+        formed = front-formed (map (tok-of s) (f .before)) (f .some .1) (subst WellFormed (f .some .2) (text-formed (f .some .0)))
 
         found : Placed s 0 (f .before ++ cond (eqb (f .here .kind) 1) (token 1 (f .here .start) (f .here .start) ∷ []) (f .here ∷ upto-bad (f .rest)))
         found = placed-scanned s _ .1 (ap upto-bad (f .split) ∙ upto-front s (f .before) (f .here ∷ f .rest) formed)
 
         -- from a token that is the same as the grammar sees it
-        told : (k : Token) (ks : List Token) → Placed s 0 (f .before ++ (k ∷ ks)) → k .start ≡ p → tokOf s k ≡ tokOf s (f .here)
-            → ((t : Ty) (ts : List Tok) → printText t ≡ upto-here a ts → ⊥)
-            × ((u : List ℕ) × (t : Ty) × (ts : List Tok) × Spelt u (printText t) × (printText t ≡ upto-before a ts))
+        told : (k : Token) (ks : List Token) → Placed s 0 (f .before ++ (k ∷ ks)) → k .start ≡ p → tok-of s k ≡ tok-of s (f .here)
+            → ((t : Ty) (ts : List Tok) → print-text t ≡ upto-here a ts → ⊥)
+            × ((u : List ℕ) × (t : Ty) × (ts : List Tok) × Spelt u (print-text t) × (print-text t ≡ upto-before a ts))
         told k ks pl e same =
             let b : At s p = record { before = f .before; here = k; rest = ks; split = pl; place = e } in (
-              (λ t ts q. f .none t ts (q ∙ here-same s p a b ts ∙ ap (λ (x : Tok). map (tokOf s) (f .before) ++ (x ∷ ts)) same)),
+              (λ t ts q. f .none t ts (q ∙ here-same s p a b ts ∙ ap (λ (x : Tok). map (tok-of s) (f .before) ++ (x ∷ ts)) same)),
               text-made s p a (f .some .0) (f .some .1) (f .made-up) (f .some .2 ∙ before-same s p b a (f .some .1)),
             )
 
         decide : (b : Bool) → eqb (f .here .kind) 1 ≡ b
-            → ((t : Ty) (ts : List Tok) → printText t ≡ upto-here a ts → ⊥)
-            × ((u : List ℕ) × (t : Ty) × (ts : List Tok) × Spelt u (printText t) × (printText t ≡ upto-before a ts))
+            → ((t : Ty) (ts : List Tok) → print-text t ≡ upto-here a ts → ⊥)
+            × ((u : List ℕ) × (t : Ty) × (ts : List Tok) × Spelt u (print-text t) × (print-text t ≡ upto-before a ts))
         decide true e =
             told (token 1 (f .here .start) (f .here .start)) [] (rw e at found) (f .place)
             (bad-sign s (token 1 (f .here .start) (f .here .start)) refl ∙ sym (bad-sign s (f .here) (eqb-true (f .here .kind) 1 e)))

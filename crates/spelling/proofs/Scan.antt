@@ -12,8 +12,8 @@ use borrow.Author.Tests.{eq-eqb, ne-eqb, eqb-true, eqb-false, le-leb, lt-leb, le
 use Rattle.table.specs.Lists.{every, same}
 use Rattle.table.specs.Table.{upper, letter-or-digit}
 use Rattle.table.proofs.Lists.{both, join}
-use Rattle.text.specs.Token.{isSpace, classOf, runEnd, token, wordKind, word-token, name-token, numberKind, number-token, dots-token, beginAt, tokenAt, tokensFrom, tokens}
-use Rattle.text.specs.Grammar.{Tok, number, sign, tokOf}
+use Rattle.text.specs.Token.{is-space, class-of, run-end, token, word-kind, word-token, name-token, number-kind, number-token, dots-token, begin-at, token-at, tokens-from, tokens}
+use Rattle.text.specs.Grammar.{Tok, number, sign, tok-of}
 use Rattle.text.specs.declared.token.Class.{Class}
 use Rattle.text.specs.declared.token.Class.the-variants.{Space, Lower, Upper, Digit, Dot, Minus, Sign, Other}
 use Rattle.text.specs.declared.token.Token.{Token}
@@ -29,38 +29,38 @@ use Rattle.spelling.proofs.Here.{inside, byte-here, next-here, part-her
 
 -- the tokens from p on, as the grammar sees them
 abbrev toks : ℕ → List ℕ → ℕ → List Tok
-toks n s p = map (tokOf s) (tokensFrom n s p)
+toks n s p = map (tok-of s) (tokens-from n s p)
 
 module _ (s : List ℕ) where
   -- a blank is passed over
-  skip : (p b : ℕ) (v : List ℕ) → drop p s ≡ b ∷ v → blank b ≡ true → tokenAt s p ≡ tokenAt s (p + 1)
-  unfolding tokenAt
-  skip p b v e h = rw (run-on isSpace s p (inside s p b v e) (ap isSpace (byte-here s p b v e) ∙ space-blank b ∙ h))
+  skip : (p b : ℕ) (v : List ℕ) → drop p s ≡ b ∷ v → blank b ≡ true → token-at s p ≡ token-at s (p + 1)
+  unfolding token-at
+  skip p b v e h = rw (run-on is-space s p (inside s p b v e) (ap is-space (byte-here s p b v e) ∙ space-blank b ∙ h))
 
-  pub skips : (n p b : ℕ) (v : List ℕ) → drop p s ≡ b ∷ v → blank b ≡ true → tokensFrom n s p ≡ tokensFrom n s (p + 1)
-  unfolding tokensFrom
+  pub skips : (n p b : ℕ) (v : List ℕ) → drop p s ≡ b ∷ v → blank b ≡ true → tokens-from n s p ≡ tokens-from n s (p + 1)
+  unfolding tokens-from
   skips zero p b v e h = refl
   skips (suc n) p b v e h = rw (skip p b v e h)
 
   -- the end of the text
-  pub at-end : (n p : ℕ) → drop p s ≡ [] → tokensFrom (suc n) s p ≡ token 0 (length s) (length s) ∷ []
-  unfolding tokensFrom tokenAt
+  pub at-end : (n p : ℕ) → drop p s ≡ [] → tokens-from (suc n) s p ≡ token 0 (length s) (length s) ∷ []
+  unfolding tokens-from token-at
   at-end n p e =
       let l : length s ≤ p = omega (arith, length-drop p s, ap length e) in
-      rw (run-out isSpace s p l, le-leb (length s) p l)
+      rw (run-out is-space s p l, le-leb (length s) p l)
 
   -- a token, and what is found after it
-  pub onwards : (n p : ℕ) (t : Tok) (k : ℕ) → Found s p t k → tokensFrom (suc n) s p ≡ tokenAt s p ∷ tokensFrom n s (p + k)
-  unfolding tokensFrom
-  onwards n p t k f = rw (ne-eqb (tokenAt s p .kind) 0 (f .on)) (ap (λ (q : ℕ). tokenAt s p ∷ tokensFrom n s q) (f .end))
+  pub onwards : (n p : ℕ) (t : Tok) (k : ℕ) → Found s p t k → tokens-from (suc n) s p ≡ token-at s p ∷ tokens-from n s (p + k)
+  unfolding tokens-from
+  onwards n p t k f = rw (ne-eqb (token-at s p .kind) 0 (f .on)) (ap (λ (q : ℕ). token-at s p ∷ tokens-from n s q) (f .end))
 
   -- the same as the grammar sees them
   ended : (n p : ℕ) → drop p s ≡ [] → toks (suc n) s p ≡ sign 0 ∷ []
-  unfolding tokOf
-  ended n p e = ap (map (tokOf s)) (at-end n p e)
+  unfolding tok-of
+  ended n p e = ap (map (tok-of s)) (at-end n p e)
 
   gone-on : (n p : ℕ) (t : Tok) (k : ℕ) → Found s p t k → toks (suc n) s p ≡ t ∷ toks n s (p + k)
-  gone-on n p t k f = ap (map (tokOf s)) (onwards n p t k f) ∙ ap (λ (x : Tok). x ∷ toks n s (p + k)) (f .tok)
+  gone-on n p t k f = ap (map (tok-of s)) (onwards n p t k f) ∙ ap (λ (x : Tok). x ∷ toks n s (p + k)) (f .tok)
 
   pub left : (n p : ℕ) (w r : List ℕ) (t : Tok) → drop p s ≡ w ++ r → Found s p t (length w) → length s - p < suc n → length s - (p + length w) < n
   left n p w r t e f h = omega (arith, onward s p (f .on) .0, onward s p (f .on) .1, f .end)
@@ -70,7 +70,7 @@ module _ (s : List ℕ) where
   spelt-found ran-out zero p e h = absurd (omega arith)
   spelt-found ran-out (suc n) p e h = ended n p e
   spelt-found (a-blank {b} {s = v} i sp) n p e h =
-      ap (map (tokOf s)) (skips n p b v e i) ∙ spelt-found sp n (p + 1) (next-here s p b v e) (omega arith)
+      ap (map (tok-of s)) (skips n p b v e i) ∙ spelt-found sp n (p + 1) (next-here s p b v e) (omega arith)
   spelt-found (a-token i o sp) zero p e h = absurd (omega arith)
   spelt-found (a-token {t} {w} {s = r} i o sp) (suc n) p e h =
       let f = found s p r i o e in
@@ -95,8 +95,8 @@ split f (b ∷ u) = go (f b) refl (split f u)
     go true e r = record { front = b ∷ r .front; rest = r .rest; is = ap (λ (l : List ℕ). b ∷ l) (r .is); all = join e (r .all); ends = r .ends }
     go false e r = record { front = []; rest = b ∷ u; is = refl; all = refl; ends = e }
 
-keyword : (w : List ℕ) → (wordKind w ≡ 1 → ⊥) → Listed word-tokens (wordKind w) w
-unfolding wordKind
+keyword : (w : List ℕ) → (word-kind w ≡ 1 → ⊥) → Listed word-tokens (word-kind w) w
+unfolding word-kind
 keyword w h = go (same w (ascii "end")) refl (same w (ascii "rec")) refl (same w (ascii "int")) refl (same w (ascii "text")) refl (same w (ascii "flag")) refl h
   where
     go : (a : Bool) → same w (ascii "end") ≡ a → (b : Bool) → same w (ascii "rec") ≡ b → (c : Bool) → same w (ascii "int") ≡ c
@@ -124,7 +124,7 @@ module _ (s : List ℕ) (p b : ℕ) (v : List ℕ) (e : drop p s ≡ b ∷ v) wh
     unfolding every
     whole h = join h (m .all)
 
-    size : f b ≡ true → runEnd f s p ≡ p + length (b ∷ m .front)
+    size : f b ≡ true → run-end f s p ≡ p + length (b ∷ m .front)
     size h = run-here s p (b ∷ m .front) (m .rest) taken f (whole h) (m .ends)
 
     begin : {t : Tok} → Spells t (b ∷ m .front) f → Begins (b ∷ v)
@@ -154,7 +154,7 @@ module _ (s : List ℕ) (p b : ℕ) (v : List ℕ) (e : drop p s ≡ b ∷ v) wh
           absurd (h (rw (size letter-or-digit m l, z, f)))
 
   digit-begins : a-digit b ≡ true → (number-token s p p .kind ≡ 1 → ⊥) → Begins (b ∷ v)
-  unfolding number-token numberKind
+  unfolding number-token number-kind
   digit-begins d h = go (eqb b 48) refl (split a-digit v)
     where
       go : (c : Bool) → eqb b 48 ≡ c → Split a-digit v → Begins (b ∷ v)
@@ -178,7 +178,7 @@ module _ (s : List ℕ) (p b : ℕ) (v : List ℕ) (e : drop p s ≡ b ∷ v) wh
               (h (rw (size a-digit m d, z, ne-eqb (p + length (b ∷ m .front)) p (λ q. omega arith), byte-here s p b v e, f, ne-eqb (length (b ∷ m .front)) 1 (λ q. omega arith))))
 
   minus-begins : b ≡ 45 → (number-token s p (p + 1) .kind ≡ 1 → ⊥) → Begins (b ∷ v)
-  unfolding number-token numberKind
+  unfolding number-token number-kind
   minus-begins d h = go (split a-digit v)
     where
       n : drop (p + 1) s ≡ v
@@ -187,7 +187,7 @@ module _ (s : List ℕ) (p b : ℕ) (v : List ℕ) (e : drop p s ≡ b ∷ v) wh
       go : Split a-digit v → Begins (b ∷ v)
       go m = first (m .front) refl
         where
-          ended : runEnd a-digit s (p + 1) ≡ p + 1 + length (m .front)
+          ended : run-end a-digit s (p + 1) ≡ p + 1 + length (m .front)
           ended = run-here s (p + 1) (m .front) (m .rest) (n ∙ m .is) a-digit (m .all) (m .ends)
 
           first : (w : List ℕ) → m .front ≡ w → Begins (b ∷ v)
@@ -244,8 +244,8 @@ module _ (s : List ℕ) (p b : ℕ) (v : List ℕ) (e : drop p s ≡ b ∷ v) wh
               absurd
               (h (rw (size dot m (eq-eqb b 46 d), z, ne-eqb (length (b ∷ m .front)) 1 (λ q. omega arith), ne-eqb (length (b ∷ m .front)) 2 (λ q. omega arith))))
 
-  pub begins : (x : Class) → Seen b x → (beginAt s p x .kind ≡ 1 → ⊥) → Begins (b ∷ v)
-  unfolding beginAt
+  pub begins : (x : Class) → Seen b x → (begin-at s p x .kind ≡ 1 → ⊥) → Begins (b ∷ v)
+  unfolding begin-at
   begins Space i h = absurd (h refl)
   begins Lower i h = lower-begins i h
   begins Upper i h = upper-begins (i .0) (i .1) h
@@ -257,16 +257,16 @@ module _ (s : List ℕ) (p b : ℕ) (v : List ℕ) (e : drop p s ≡ b ∷ v) wh
 
 module _ (s : List ℕ) where
   -- no blank here: the token begins here
-  pub begin-here : (p b : ℕ) (v : List ℕ) → drop p s ≡ b ∷ v → blank b ≡ false → tokenAt s p ≡ beginAt s p (classOf b)
-  unfolding tokenAt
+  pub begin-here : (p b : ℕ) (v : List ℕ) → drop p s ≡ b ∷ v → blank b ≡ false → token-at s p ≡ begin-at s p (class-of b)
+  unfolding token-at
   begin-here p b v e i =
       let l : p < length s = inside s p b v e in
       let at : getD s p 0 ≡ b = byte-here s p b v e in
-      rw (run-off isSpace s p l (ap isSpace at ∙ space-blank b ∙ i), lt-leb (length s) p l, at)
+      rw (run-off is-space s p l (ap is-space at ∙ space-blank b ∙ i), lt-leb (length s) p l, at)
 
-  formed-kind : (n p : ℕ) → WellFormed (toks (suc n) s p) → tokenAt s p .kind ≡ 1 → ⊥
-  unfolding tokensFrom
-  formed-kind n p f k = f .0 (kind-sign s (tokenAt s p) 1 (λ q. omega arith) (λ q. omega arith) k)
+  formed-kind : (n p : ℕ) → WellFormed (toks (suc n) s p) → token-at s p .kind ≡ 1 → ⊥
+  unfolding tokens-from
+  formed-kind n p f k = f .0 (kind-sign s (token-at s p) 1 (λ q. omega arith) (λ q. omega arith) k)
 
   step : (m n p : ℕ) → ((n p : ℕ) → length s - p < m → length s - p < n → WellFormed (toks n s p) → Spelt (drop p s) (toks n s p))
       → length s - p < suc m → length s - p < suc n → WellFormed (toks (suc n) s p) → Spelt (drop p s) (toks (suc n) s p)
@@ -282,9 +282,9 @@ module _ (s : List ℕ) where
           blanks : (c : Bool) → blank b ≡ c → Spelt (drop p s) (toks (suc n) s p)
           blanks true g =
               let l : p < length s = inside s p b v e in
-              let k : toks (suc n) s p ≡ toks (suc n) s (p + 1) = ap (map (tokOf s)) (skips s (suc n) p b v e g) in
+              let k : toks (suc n) s p ≡ toks (suc n) s (p + 1) = ap (map (tok-of s)) (skips s (suc n) p b v e g) in
               rw (e, k) (a-blank g (rw on at (ih (suc n) (p + 1) (omega arith) (omega arith) (rw k at f))))
-          blanks false g = token-next (begins s p b v e (classOf b) (seen b) (λ q. formed-kind n p f (ap (λ (t : Token). t .kind) (begin-here p b v e g) ∙ q)))
+          blanks false g = token-next (begins s p b v e (class-of b) (seen b) (λ q. formed-kind n p f (ap (λ (t : Token). t .kind) (begin-here p b v e g) ∙ q)))
             where
               token-next : Begins (b ∷ v) → Spelt (drop p s) (toks (suc n) s p)
               token-next a =

@@ -11,14 +11,14 @@ use lib.ListN.{length, getD}
 use borrow.Author.Tests.{ne-eqb, eqb-true, le-leb, ltb-true, ltb-false}
 use Rattle.table.specs.Lists.{every}
 use Rattle.table.specs.Table.{upper, letter-or-digit, label-rest, legal-label}
-use Rattle.table.specs.View.{labelOf}
+use Rattle.table.specs.View.{label-of}
 use Rattle.table.proofs.Lists.{both, join, never}
-use Rattle.text.specs.Token.{oneOf, packed, wordOf}
-use Rattle.text.specs.Number.{Signed, valueOf}
-use Rattle.text.specs.Grammar.{Ty, Tok, word, number, sign, printText}
-use Rattle.table.specs.Ascii.{ascii}
+use Rattle.text.specs.Token.{one-of, packed, word-of}
+use Rattle.text.specs.Number.{Signed, value-of}
+use Rattle.text.specs.Grammar.{Ty, Tok, word, number, sign, print-text}
+use Rattle.table.specs.Ascii.{ascii, letters, digits}
 use Rattle.spelling.specs.Spelling.{a-digit, dot, sign-tokens, dot-tokens, word-tokens, Listed, Digits, Spells, a-sign, a-dot, a-word, a-name, a-zero, a-number, a-negative, Spelt, ran-out, a-blank, a-token}
-use Rattle.spelling.specs.Speller.{trim, decimal, beside, bytes, spelling, spell, Writable, Spellable}
+use Rattle.spelling.specs.Speller.{beside, bytes, spelling, spell, Writable, Spellable}
 use Rattle.spelling.specs.Theorems.{DecimalValue}
 use Rattle.spelling.proofs.Classes.{kinds, beside-listed}
 use Rattle.spelling.proofs.Prints.{fixed, print-holds}
@@ -57,9 +57,9 @@ rest-ways c r e = go (letter-or-digit c && label-rest r) refl e
     go false f e = let p = both (eqb c 0) (every (λ x. eqb x 0) r) e in inr (p .0, e)
 
 record Trimmed (r : List ℕ) : Type 0 where
-  letters : every letter-or-digit (trim r) ≡ true
-  fits : length (trim r) ≤ length r
-  same : (n : ℕ) → packed n (trim r) ≡ packed n r
+  all-letters : every letter-or-digit (letters r) ≡ true
+  fits : length (letters r) ≤ length r
+  same : (n : ℕ) → packed n (letters r) ≡ packed n r
 
 nil-packed : (n : ℕ) → packed n [] ≡ 0
 unfolding packed
@@ -67,11 +67,11 @@ nil-packed zero = refl
 nil-packed (suc n) = refl
 
 trimmed : (r : List ℕ) → label-rest r ≡ true → Trimmed r
-unfolding trim every packed
-trimmed [] e = record { letters = refl; fits = omega arith; same = λ n. refl }
+unfolding letters every packed
+trimmed [] e = record { all-letters = refl; fits = omega arith; same = λ n. refl }
 trimmed (c ∷ r) e = go (rest-ways c r e) (trimmed r)
   where
-    more : (n : ℕ) → Trimmed r → packed n (c ∷ trim r) ≡ packed n (c ∷ r)
+    more : (n : ℕ) → Trimmed r → packed n (c ∷ letters r) ≡ packed n (c ∷ r)
     more zero t = refl
     more (suc n) t = ap (λ (x : ℕ). c * 256 ^ n + x) (t .same n)
 
@@ -79,16 +79,16 @@ trimmed (c ∷ r) e = go (rest-ways c r e) (trimmed r)
     go (inl p) ih =
         let t = ih (p .2) in
         let l = t .fits in
-        record { letters = rw (p .0) (join (p .1) (t .letters)); fits = rw (p .0) (omega arith); same = λ n. rw (p .0) (more n t) }
+        record { all-letters = rw (p .0) (join (p .1) (t .all-letters)); fits = rw (p .0) (omega arith); same = λ n. rw (p .0) (more n t) }
     go (inr p) ih =
         record {
-          letters = rw (p .0);
+          all-letters = rw (p .0);
           fits = rw (p .0) (omega arith);
-          same = λ n. ap (λ (b : Bool). packed n (cond b [] (c ∷ trim r))) (p .0) ∙ nil-packed n ∙ sym (zeros-packed n (c ∷ r) (p .1));
+          same = λ n. ap (λ (b : Bool). packed n (cond b [] (c ∷ letters r))) (p .0) ∙ nil-packed n ∙ sym (zeros-packed n (c ∷ r) (p .1));
         }
 
-label-spells : (w : List ℕ) → legal-label w ≡ true → Spells (word (wordOf w)) (trim w) letter-or-digit
-unfolding legal-label trim wordOf packed
+label-spells : (w : List ℕ) → legal-label w ≡ true → Spells (word (word-of w)) (letters w) letter-or-digit
+unfolding legal-label letters word-of packed
 label-spells [] e = never e refl
 label-spells (c ∷ r) e =
     let p = both (upper c && label-rest r) (eqb (length r) 7) e in
@@ -96,7 +96,7 @@ label-spells (c ∷ r) e =
     let t = trimmed r (q .1) in
     let l = t .fits in
     let n : length r ≡ 7 = eqb-true (length r) 7 (p .1) in
-    rw (upper-not-zero c (q .0), ← (t .same 7)) (a-name {w = c ∷ trim r} (q .0, t .letters, omega arith))
+    rw (upper-not-zero c (q .0), ← (t .same 7)) (a-name {w = c ∷ letters r} (q .0, t .all-letters, omega arith))
 
 -- ---- numbers
 
@@ -105,8 +105,8 @@ unfolding every
 every-last f [] c e h = join h refl
 every-last f (b ∷ u) c e h = let p = both (f b) (every f u) e in join (p .0) (every-last f u c (p .1) h)
 
-value-last : (u : List ℕ) (v c : ℕ) → valueOf v (u ++ (c ∷ [])) ≡ valueOf v u * 10 + (c - 48)
-unfolding valueOf
+value-last : (u : List ℕ) (v c : ℕ) → value-of v (u ++ (c ∷ [])) ≡ value-of v u * 10 + (c - 48)
+unfolding value-of
 value-last [] v c = refl
 value-last (b ∷ u) v c = value-last u (v * 10 + (b - 48)) c
 
@@ -119,16 +119,16 @@ small-digit n h = join (le-leb 48 (48 + n) (omega arith)) (le-leb (48 + n) 57 (o
 
 record Decimal (n : ℕ) (w : List ℕ) : Type 0 where
   all : every a-digit w ≡ true
-  value : valueOf 0 w ≡ n
+  value : value-of 0 w ≡ n
   first : 0 < n → getD w 0 48 ≡ 48 → ⊥
 
-decimal-is : (fuel n : ℕ) → n < fuel → Decimal n (decimal fuel n)
-unfolding decimal every valueOf
+decimal-is : (fuel n : ℕ) → n < fuel → Decimal n (digits fuel n)
+unfolding digits every value-of
 decimal-is zero n h = absurd (omega arith)
 decimal-is (suc fuel) n h = go (ltb n 10) refl (decimal-is fuel (n / 10))
   where
-    go : (b : Bool) → ltb n 10 ≡ b → (n / 10 < fuel → Decimal (n / 10) (decimal fuel (n / 10)))
-        → Decimal n (cond b ((48 + n) ∷ []) (decimal fuel (n / 10) ++ ((48 + n % 10) ∷ [])))
+    go : (b : Bool) → ltb n 10 ≡ b → (n / 10 < fuel → Decimal (n / 10) (digits fuel (n / 10)))
+        → Decimal n (cond b ((48 + n) ∷ []) (digits fuel (n / 10) ++ ((48 + n % 10) ∷ [])))
     go true e ih = one (ltb-true n 10 e)
       where
         one : n < 10 → Decimal n ((48 + n) ∷ [])
@@ -136,7 +136,7 @@ decimal-is (suc fuel) n h = go (ltb n 10) refl (decimal-is fuel (n / 10))
     go false e ih =
         let l : 10 ≤ n = ltb-false n 10 e in
         let d = ih (omega arith) in
-        let w = decimal fuel (n / 10) in
+        let w = digits fuel (n / 10) in
         record {
           all = every-last a-digit w (48 + n % 10) (d .all) (small-digit (n % 10) (omega arith));
           value = value-last w 0 (48 + n % 10) ∙ rw (d .value) (omega arith);
@@ -152,21 +152,21 @@ as-number [] n d h = absurd (d .first h refl)
 as-number (b ∷ w) n d h = (d .all, d .first h)
 
 number-spells : (m : Bool) (v : ℕ) → (m ≡ true → v ≡ 0 → ⊥)
-    → Spells (number (record { minus = m; value = v })) (cond m (ascii "-") [] ++ decimal (suc v) v) a-digit
-unfolding decimal
+    → Spells (number (record { minus = m; value = v })) (cond m (ascii "-") [] ++ digits (suc v) v) a-digit
+unfolding digits
 number-spells true zero h = absurd (h refl refl)
 number-spells true (suc v) h =
     let d = decimal-is (suc (suc v)) (suc v) (omega arith) in
-    subst (λ (n : ℕ). Spells (number (record { minus = true; value = n })) (ascii "-" ++ decimal (suc (suc v)) (suc v)) a-digit) (d .value)
-    (a-negative {w = decimal (suc (suc v)) (suc v)} (as-number (decimal (suc (suc v)) (suc v)) (suc v) d (omega arith)))
+    subst (λ (n : ℕ). Spells (number (record { minus = true; value = n })) (ascii "-" ++ digits (suc (suc v)) (suc v)) a-digit) (d .value)
+    (a-negative {w = digits (suc (suc v)) (suc v)} (as-number (digits (suc (suc v)) (suc v)) (suc v) d (omega arith)))
 number-spells false zero h = nought
   where
-    nought : Spells (number (record { minus = false; value = 0 })) (decimal 1 0) a-digit
+    nought : Spells (number (record { minus = false; value = 0 })) (digits 1 0) a-digit
     nought = a-zero
 number-spells false (suc v) h =
     let d = decimal-is (suc (suc v)) (suc v) (omega arith) in
-    subst (λ (n : ℕ). Spells (number (record { minus = false; value = n })) (decimal (suc (suc v)) (suc v)) a-digit) (d .value)
-    (a-number {w = decimal (suc (suc v)) (suc v)} (as-number (decimal (suc (suc v)) (suc v)) (suc v) d (omega arith)))
+    subst (λ (n : ℕ). Spells (number (record { minus = false; value = n })) (digits (suc (suc v)) (suc v)) a-digit) (d .value)
+    (a-number {w = digits (suc (suc v)) (suc v)} (as-number (digits (suc (suc v)) (suc v)) (suc v) d (omega arith)))
 
 -- ---- tokens and texts
 
@@ -175,18 +175,18 @@ abbrev Spelled : Tok → Type 0
 Spelled t = (more : ℕ → Bool) × Spells t (bytes t) more × (more 32 ≡ false)
 
 -- a kind of two lists, one after the other, stands in the first or in the second
-either-list : (es fs : List (ℕ × String)) (k : ℕ) (P : List ℕ → Type 0) → oneOf (kinds (es ++ fs)) k ≡ true
-    → ((w : List ℕ) → Listed es k w → P w) → (oneOf (kinds fs) k ≡ true → P (beside fs k)) → P (beside (es ++ fs) k)
+either-list : (es fs : List (ℕ × String)) (k : ℕ) (P : List ℕ → Type 0) → one-of (kinds (es ++ fs)) k ≡ true
+    → ((w : List ℕ) → Listed es k w → P w) → (one-of (kinds fs) k ≡ true → P (beside fs k)) → P (beside (es ++ fs) k)
 unfolding beside
 either-list [] fs k P e f g = g e
 either-list (x ∷ es) fs k P e f g = go (eqb k (x .0)) refl e (λ e. either-list es fs k P e (λ w l. f w (inr l)) g)
   where
-    go : (c : Bool) → eqb k (x .0) ≡ c → cond c true (oneOf (kinds (es ++ fs)) k) ≡ true
-        → (oneOf (kinds (es ++ fs)) k ≡ true → P (beside (es ++ fs) k)) → P (cond c (ascii (x .1)) (beside (es ++ fs) k))
+    go : (c : Bool) → eqb k (x .0) ≡ c → cond c true (one-of (kinds (es ++ fs)) k) ≡ true
+        → (one-of (kinds (es ++ fs)) k ≡ true → P (beside (es ++ fs) k)) → P (cond c (ascii (x .1)) (beside (es ++ fs) k))
     go true q e rest = f (ascii (x .1)) (inl (eqb-true _ _ q, refl))
     go false q e rest = rest e
 
-fixed-spelled : (k : ℕ) → oneOf fixed k ≡ true → Spelled (sign k)
+fixed-spelled : (k : ℕ) → one-of fixed k ≡ true → Spelled (sign k)
 unfolding letter-or-digit
 fixed-spelled k e =
     either-list sign-tokens (dot-tokens ++ word-tokens) k P e (λ w l. ((λ b. false), a-sign l, refl))
@@ -197,7 +197,7 @@ fixed-spelled k e =
 
 word-spelled : (x : ℕ) → Writable (word x) → Spelled (word x)
 unfolding letter-or-digit
-word-spelled x h = (letter-or-digit, subst (λ (x′ : ℕ). Spells (word x′) (trim (labelOf x)) letter-or-digit) (h .1) (label-spells (labelOf x) (h .0)), refl)
+word-spelled x h = (letter-or-digit, subst (λ (x′ : ℕ). Spells (word x′) (letters (label-of x)) letter-or-digit) (h .1) (label-spells (label-of x) (h .0)), refl)
 
 number-spelled : (n : Signed) → Writable (number n) → Spelled (number n)
 number-spelled n h = (a-digit, number-spells (n .minus) (n .value) h, refl)
@@ -211,7 +211,7 @@ unfolding spelling beside
 last-spelt = a-blank refl ran-out
 
 -- A type whose names, labels and numbers can be written has a text that spells it.
-pub spell-spelt : (t : Ty) → Spellable t → Spelt (spell t) (printText t)
+pub spell-spelt : (t : Ty) → Spellable t → Spelt (spell t) (print-text t)
 unfolding spell
 spell-spelt t h =
     print-holds Writable (λ ts. Spelt (spelling ts) ts) (λ x ts w. spelling-on (word x) ts (word-spelled x w)) (λ n ts w. spelling-on (number n) ts (number-spelled n w))

@@ -5,14 +5,14 @@ use mathlib.Core.List.{List, [], _∷_, _++_}
 use Prim.Native.Nat.{ℕ}
 use Prim.Native.String.{String}
 use Rattle.table.specs.Ascii.{ascii}
-use Rattle.text.specs.Token.{wordOf}
+use Rattle.text.specs.Token.{word-of}
 use Rattle.text.specs.Number.{Signed}
-use Rattle.text.specs.Grammar.{sends, receives, int, Ty, stop, var, loop, choice, last, also, Tok, word, number, sign, printText}
+use Rattle.text.specs.Grammar.{sending, receiving, int, Ty, stop, var, loop, choice, last, also, Tok, word, number, sign, print-text}
 use Rattle.spelling.specs.Spelling.{Spelt}
 use Rattle.text.specs.Kind as K
 
 abbrev name : String → ℕ
-name x = wordOf (ascii x)
+name x = word-of (ascii x)
 
 abbrev plus : ℕ → Signed
 plus n = record { minus = false; value = n }
@@ -21,17 +21,17 @@ plus n = record { minus = false; value = n }
 abbrev pub P-type : Ty
 P-type =
     loop (name "X")
-    (choice sends
-    (also (name "Ask") (record { kind = int; low = plus 0; high = plus 100 } ∷ []) (choice receives (last (name "Ok") [] (var (name "X"))))
+    (choice sending
+    (also (name "Ask") (record { kind = int; low = plus 0; high = plus 100 } ∷ []) (choice receiving (last (name "Ok") [] (var (name "X"))))
     (last (name "Quit") [] stop)))
 
 abbrev Nothing : List ℕ → Type 0
 Nothing s = (ts : List Tok) → Spelt s ts → ⊥
 
 pub record Examples : Type 0 where
-  pub protocol : Spelt (ascii "rec X.+{!Ask(int[0..100]).&{?Ok().X},!Quit().end}") (printText P-type)
+  pub protocol : Spelt (ascii "rec X.+{!Ask(int[0..100]).&{?Ok().X},!Quit().end}") (print-text P-type)
   -- spaces and line feeds may stand before and after tokens; a tab may not
-  pub blanks : Spelt (0x0A ∷ 0x20 ∷ ascii "end" ++ (0x0A ∷ [])) (printText stop)
+  pub blanks : Spelt (0x0A ∷ 0x20 ∷ ascii "end" ++ (0x0A ∷ [])) (print-text stop)
   pub tab : Nothing (0x09 ∷ ascii "end")
   -- a token that begins with a digit takes digits only
   pub two-tokens : Spelt (ascii "5A") (number (plus 5) ∷ word (name "A") ∷ sign K.ran-out ∷ [])

@@ -22,10 +22,10 @@ pub record Begins (u : List ℕ) : Type 0 where
   pub ends : EndsRun more rest
   pub is : u ≡ w ++ rest
 
-abbrev pub kindIn : Tok → ℕ
-kindIn (word x) = K.name
-kindIn (number n) = K.number
-kindIn (sign k) = k
+abbrev pub kind-in : Tok → ℕ
+kind-in (word x) = K.name
+kind-in (number n) = K.number
+kind-in (sign k) = k
 
 -- the bytes from the place p on: blanks and tokens, until the text runs out or a byte that is no blank begins nothing named
 pub data Placed : List ℕ → ℕ → List Token → Type 0 where
@@ -33,4 +33,4 @@ pub data Placed : List ℕ → ℕ → List Token → Type 0 where
   malformed : {b p : ℕ} {s : List ℕ} → blank b ≡ false → (Begins (b ∷ s) → ⊥) → Placed (b ∷ s) p (token K.malformed p p ∷ [])
   a-blank : {b p : ℕ} {s : List ℕ} {ks : List Token} → blank b ≡ true → Placed s (p + 1) ks → Placed (b ∷ s) p ks
   a-token : {t : Tok} {w s : List ℕ} {more : ℕ → Bool} {p : ℕ} {ks : List Token}
-      → Spells t w more → EndsRun more s → Placed s (p + length w) ks → Placed (w ++ s) p (token (kindIn t) p (p + length w) ∷ ks)
+      → Spells t w more → EndsRun more s → Placed s (p + length w) ks → Placed (w ++ s) p (token (kind-in t) p (p + length w) ∷ ks)

@@ -3,7 +3,7 @@
 use mathlib.Core.Path.{_≡_}
 use mathlib.Core.List.{List, _∷_, _++_, map}
 use Prim.Native.Nat.{ℕ, _≤_}
-use Rattle.text.specs.Grammar.{Ty, Tok, printText, tokOf}
+use Rattle.text.specs.Grammar.{Ty, Tok, print-text, tok-of}
 use Rattle.text.specs.Filled.{refused}
 use Rattle.text.specs.Reading.{reads}
 use Rattle.text.specs.declared.token.Token.{Token}
@@ -20,10 +20,10 @@ pub record At (s : List ℕ) (p : ℕ) : Type 0 where
 
 -- the tokens before it; the same and it itself; as the grammar sees them, with others to follow
 abbrev pub upto-before : {s : List ℕ} {p : ℕ} → At s p → List Tok → List Tok
-upto-before {s} a ts = map (tokOf s) (a .before) ++ ts
+upto-before {s} a ts = map (tok-of s) (a .before) ++ ts
 
 abbrev pub upto-here : {s : List ℕ} {p : ℕ} → At s p → List Tok → List Tok
-upto-here {s} a ts = upto-before a (tokOf s (a .here) ∷ ts)
+upto-here {s} a ts = upto-before a (tok-of s (a .here) ∷ ts)
 
 -- A refusal by 2 to 8: there is a token at the place, and no text that is read begins with the tokens up to and with it.
 abbrev pub RefusedMeans : Type 0
@@ -36,5 +36,5 @@ RefusedMeans =
 abbrev pub ThreeMeans : Type 0
 ThreeMeans =
     (s : List ℕ) (p : ℕ) → reads s ≡ refused 3 p → (a : At s p)
-    → ((t : Ty) (ts : List Tok) → printText t ≡ upto-here a ts → ⊥)
-    × ((u : List ℕ) × (t : Ty) × (ts : List Tok) × Spelt u (printText t) × (printText t ≡ upto-before a ts))
+    → ((t : Ty) (ts : List Tok) → print-text t ≡ upto-here a ts → ⊥)
+    × ((u : List ℕ) × (t : Ty) × (ts : List Tok) × Spelt u (print-text t) × (print-text t ≡ upto-before a ts))

@@ -8,21 +8,11 @@ use Prim.Native.Nat.{ℕ, zero, suc, _+_, _/_, _%_}
 use Prim.Native.String.{String}
 use lib.Dec.{ltb, eqb}
 use Rattle.table.specs.Table.{legal-label}
-use Rattle.table.specs.View.{labelOf}
-use Rattle.text.specs.Token.{wordOf}
-use Rattle.text.specs.Grammar.{Field, Ty, stop, var, loop, choice, Br, last, also, Tok, word, number, sign, printText}
-use Rattle.table.specs.Ascii.{ascii}
+use Rattle.table.specs.View.{label-of}
+use Rattle.text.specs.Token.{word-of}
+use Rattle.text.specs.Grammar.{SyntaxField, Ty, stop, var, loop, choice, Br, last, also, Tok, word, number, sign, print-text}
+use Rattle.table.specs.Ascii.{ascii, letters, digits}
 use Rattle.spelling.specs.Spelling.{sign-tokens, dot-tokens, word-tokens}
-
--- the bytes before the first 0x00
-unfoldable pub trim : List ℕ → List ℕ
-trim [] = []
-trim (c ∷ r) = cond (eqb c 0) [] (c ∷ trim r)
-
--- the decimal digits of a number below the fuel, without a leading zero
-unfoldable pub decimal : ℕ → ℕ → List ℕ
-decimal zero n = []
-decimal (suc fuel) n = cond (ltb n 10) ((48 + n) ∷ []) (decimal fuel (n / 10) ++ ((48 + n % 10) ∷ []))
 
 -- what stands beside k in a list
 unfoldable pub beside : List (ℕ × String) → ℕ → List ℕ
@@ -30,8 +20,8 @@ beside [] k = []
 beside (e ∷ es) k = cond (eqb k (e .0)) (ascii (e .1)) (beside es k)
 
 abbrev pub bytes : Tok → List ℕ
-bytes (word x) = trim (labelOf x)
-bytes (number n) = cond (n .minus) (ascii "-") [] ++ decimal (suc (n .value)) (n .value)
+bytes (word x) = letters (label-of x)
+bytes (number n) = cond (n .minus) (ascii "-") [] ++ digits (suc (n .value)) (n .value)
 bytes (sign k) = beside (sign-tokens ++ dot-tokens ++ word-tokens) k
 
 unfoldable pub spelling : List Tok → List ℕ
@@ -39,19 +29,19 @@ spelling [] = []
 spelling (t ∷ ts) = bytes t ++ (0x20 ∷ spelling ts)
 
 unfoldable pub spell : Ty → List ℕ
-spell t = spelling (printText t)
+spell t = spelling (print-text t)
 
 -- ---- which types have a text
 
 -- a word whose eight bytes are a legal label; any number but -0
 abbrev pub Writable : Tok → Type 0
-Writable (word x) = (legal-label (labelOf x) ≡ true) × (wordOf (labelOf x) ≡ x)
+Writable (word x) = (legal-label (label-of x) ≡ true) × (word-of (label-of x) ≡ x)
 Writable (number n) = n .minus ≡ true → n .value ≡ 0 → ⊥
 Writable (sign k) = Unit {0}
 
 -- a property of the names, labels and numbers of a type
 module _ (P : Tok → Type 0) where
-  abbrev pub OfFields : List Field → Type 0
+  abbrev pub OfFields : List SyntaxField → Type 0
   OfFields [] = Unit {0}
   OfFields (f ∷ fs) = P (number (f .low)) × (P (number (f .high)) × OfFields fs)
 

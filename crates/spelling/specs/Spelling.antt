@@ -12,8 +12,8 @@ use lib.ListN.{length}
 use Rattle.table.specs.Ascii.{ascii}
 use Rattle.table.specs.Lists.{every}
 use Rattle.table.specs.Table.{upper, letter-or-digit}
-use Rattle.text.specs.Token.{wordOf}
-use Rattle.text.specs.Number.{valueOf}
+use Rattle.text.specs.Token.{word-of}
+use Rattle.text.specs.Number.{value-of}
 use Rattle.text.specs.Grammar.{Tok, word, number, sign}
 use Rattle.text.specs.Kind as K
 
@@ -65,10 +65,10 @@ pub data Spells : Tok → List ℕ → (ℕ → Bool) → Type 0 where
   a-sign : {k : ℕ} {w : List ℕ} → Listed sign-tokens k w → Spells (sign k) w (λ b. false)
   a-dot : {k : ℕ} {w : List ℕ} → Listed dot-tokens k w → Spells (sign k) w dot
   a-word : {k : ℕ} {w : List ℕ} → Listed word-tokens k w → Spells (sign k) w letter-or-digit
-  a-name : {w : List ℕ} → Name w → Spells (word (wordOf w)) w letter-or-digit
+  a-name : {w : List ℕ} → Name w → Spells (word (word-of w)) w letter-or-digit
   a-zero : Spells (number (record { minus = false; value = 0 })) (ascii "0") a-digit
-  a-number : {w : List ℕ} → Digits w → Spells (number (record { minus = false; value = valueOf 0 w })) w a-digit
-  a-negative : {w : List ℕ} → Digits w → Spells (number (record { minus = true; value = valueOf 0 w })) (ascii "-" ++ w) a-digit
+  a-number : {w : List ℕ} → Digits w → Spells (number (record { minus = false; value = value-of 0 w })) w a-digit
+  a-negative : {w : List ℕ} → Digits w → Spells (number (record { minus = true; value = value-of 0 w })) (ascii "-" ++ w) a-digit
 
 -- ---- a text
 

@@ -7,17 +7,18 @@ use mathlib.Core.List.{List, [], _∷_, map}
 use Prim.Native.Nat.{ℕ, suc, _≤_}
 use lib.Dec.{leb}
 use lib.ListN.{length}
-use Rattle.table.specs.View.{labelOf, view}
-use Rattle.text.specs.Token.{tokens, wordOf}
-use Rattle.text.specs.Number.{valueOf}
-use Rattle.text.specs.Grammar.{text-limit, Ty, Tok, sign, printText, tokOf, Writes, tableOf, Legal}
+use Rattle.table.specs.Ascii.{letters, digits}
+use Rattle.table.specs.View.{label-of, view}
+use Rattle.text.specs.Token.{tokens, word-of}
+use Rattle.text.specs.Number.{value-of}
+use Rattle.text.specs.Grammar.{text-limit, Ty, Tok, sign, print-text, tok-of, Writes, table-of, Legal}
 use Rattle.text.specs.Building.{denied}
 use Rattle.text.specs.Filled.{Reading, came-out, filled, padded, written}
 use Rattle.text.specs.Reading.{start, run-tokens, reads}
 use Rattle.text.specs.declared.token.Token.{Token}
 use Rattle.spelling.specs.Spelling.{Name, Spelt}
 use Rattle.spelling.specs.Places.{Placed}
-use Rattle.spelling.specs.Speller.{trim, decimal, spell, Spellable}
+use Rattle.spelling.specs.Speller.{spell, Spellable}
 use Rattle.table.specs.Table as T
 use Rattle.text.specs.Kind as K
 
@@ -30,7 +31,7 @@ WellFormed (t ∷ ts) = (t ≡ sign K.malformed → ⊥) × WellFormed ts
 
 -- A text spells tokens exactly when the scanner finds them in it and none of them is malformed.
 abbrev pub SpeltScanned : Type 0
-SpeltScanned = (s : List ℕ) (ts : List Tok) → Spelt s ts ↔ ((map (tokOf s) (tokens s) ≡ ts) × WellFormed ts)
+SpeltScanned = (s : List ℕ) (ts : List Tok) → Spelt s ts ↔ ((map (tok-of s) (tokens s) ≡ ts) × WellFormed ts)
 
 -- A text spells at most one list of tokens.
 abbrev pub SpeltOnce : Type 0
@@ -38,11 +39,11 @@ SpeltOnce = (s : List ℕ) (ts us : List Tok) → Spelt s ts → Spelt s us → 
 
 -- The scanner finds a type's tokens in a text that is not too long exactly when the text spells them.
 abbrev pub WritesSpelt : Type 0
-WritesSpelt = (s : List ℕ) (t : Ty) → Writes s t ↔ ((length s ≤ text-limit) × Spelt s (printText t))
+WritesSpelt = (s : List ℕ) (t : Ty) → Writes s t ↔ ((length s ≤ text-limit) × Spelt s (print-text t))
 
 -- A text spells at most one type.
 abbrev pub TypeOnce : Type 0
-TypeOnce = (s : List ℕ) (t u : Ty) → Spelt s (printText t) → Spelt s (printText u) → t ≡ u
+TypeOnce = (s : List ℕ) (t u : Ty) → Spelt s (print-text t) → Spelt s (print-text u) → t ≡ u
 
 -- ---- reading
 
@@ -51,14 +52,14 @@ abbrev pub ReadExactly : Type 0
 ReadExactly =
     (s : List ℕ) (r : Reading)
     → ((reads s ≡ r) × (r .question ≡ 0))
-    ↔ ((t : Ty) × (length s ≤ text-limit) × Spelt s (printText t) × Legal t × (r ≡ came-out 0 0 (filled (tableOf t))))
+    ↔ ((t : Ty) × (length s ≤ text-limit) × Spelt s (print-text t) × Legal t × (r ≡ came-out 0 0 (filled (table-of t))))
 
 -- The same of what is seen of the table's words.
 abbrev pub ReadSeen : Type 0
 ReadSeen =
     (s : List ℕ) (T : T.Table)
     → ((reads s .question ≡ 0) × (view (reads s .table) ≡ T))
-    ↔ ((t : Ty) × (length s ≤ text-limit) × Spelt s (printText t) × Legal t × (T ≡ tableOf t))
+    ↔ ((t : Ty) × (length s ≤ text-limit) × Spelt s (print-text t) × Legal t × (T ≡ table-of t))
 
 -- Reading any text, refusals and their places included, asks the questions at the tokens that stand in it.
 abbrev pub ReadPlaced : Type 0
@@ -71,26 +72,26 @@ ReadPlaced =
 
 -- The digits of a number, by division by ten, have its value.
 abbrev pub DecimalValue : Type 0
-DecimalValue = (n : ℕ) → valueOf 0 (decimal (suc n) n) ≡ n
+DecimalValue = (n : ℕ) → value-of 0 (digits (suc n) n) ≡ n
 
 -- A type has a text exactly when its names, labels and numbers can be written.
 abbrev pub SpellableExactly : Type 0
-SpellableExactly = (t : Ty) → Spellable t ↔ ((s : List ℕ) × Spelt s (printText t))
+SpellableExactly = (t : Ty) → Spellable t ↔ ((s : List ℕ) × Spelt s (print-text t))
 
 -- The speller's text of a legal type is read, where it is not too long.
 abbrev pub SpellRead : Type 0
-SpellRead = (t : Ty) → Spellable t → Legal t → length (spell t) ≤ text-limit → reads (spell t) ≡ came-out 0 0 (filled (tableOf t))
+SpellRead = (t : Ty) → Spellable t → Legal t → length (spell t) ≤ text-limit → reads (spell t) ≡ came-out 0 0 (filled (table-of t))
 
 -- ---- names
 
 -- The eight bytes of a name's word are the name's, filled up with 0x00.
 abbrev pub NameBytes : Type 0
-NameBytes = (w : List ℕ) → Name w → labelOf (wordOf w) ≡ padded 8 w
+NameBytes = (w : List ℕ) → Name w → label-of (word-of w) ≡ padded 8 w
 
 -- So a name comes back from its word.
 abbrev pub NameBack : Type 0
-NameBack = (w : List ℕ) → Name w → trim (labelOf (wordOf w)) ≡ w
+NameBack = (w : List ℕ) → Name w → letters (label-of (word-of w)) ≡ w
 
 -- Two names are the same exactly when their bytes are.
 abbrev pub NameOnce : Type 0
-NameOnce = (v w : List ℕ) → Name v → Name w → (wordOf v ≡ wordOf w) ↔ (v ≡ w)
+NameOnce = (v w : List ℕ) → Name v → Name w → (word-of v ≡ word-of w) ↔ (v ≡ w)

@@ -17,50 +17,50 @@ Words = List ℕ
 
 -- ---- the words
 
-abbrev pub statesOf : Words → ℕ
-statesOf t = getD t 0 0
+abbrev pub states-of : Words → ℕ
+states-of t = getD t 0 0
 
-abbrev pub branchesOf : Words → ℕ
-branchesOf t = getD t 1 0
+abbrev pub branches-of : Words → ℕ
+branches-of t = getD t 1 0
 
 -- a sort's code: 0 end, 1 sends, 2 receives
-abbrev pub sortAt : Words → ℕ → ℕ
-sortAt t i = getD t (2 + i) 0
+abbrev pub sort-at : Words → ℕ → ℕ
+sort-at t i = getD t (2 + i) 0
 
-abbrev pub ownerAt : Words → ℕ → ℕ
-ownerAt t k = getD t (34 + k) 0
+abbrev pub owner-at : Words → ℕ → ℕ
+owner-at t k = getD t (34 + k) 0
 
-abbrev pub targetAt : Words → ℕ → ℕ
-targetAt t k = getD t (162 + k) 0
+abbrev pub target-at : Words → ℕ → ℕ
+target-at t k = getD t (162 + k) 0
 
 -- how many fields
-abbrev pub countAt : Words → ℕ → ℕ
-countAt t k = getD t (290 + k) 0
+abbrev pub count-at : Words → ℕ → ℕ
+count-at t k = getD t (290 + k) 0
 
 -- a label's eight bytes as one number, high byte first, of two words
-abbrev pub labelWord : ℕ → ℕ → ℕ
-labelWord high low = high * 4294967296 + low
+abbrev pub joined-label : ℕ → ℕ → ℕ
+joined-label high low = high * 4294967296 + low
 
-abbrev pub wordAt : Words → ℕ → ℕ
-wordAt t k = labelWord (getD t (418 + k) 0) (getD t (546 + k) 0)
+abbrev pub word-at : Words → ℕ → ℕ
+word-at t k = joined-label (getD t (418 + k) 0) (getD t (546 + k) 0)
 
-abbrev pub kindAt : Words → ℕ → ℕ
-kindAt t k = getD t (674 + k) 0
+abbrev pub kind-at : Words → ℕ → ℕ
+kind-at t k = getD t (674 + k) 0
 
-abbrev pub lowAt : Words → ℕ → ℕ
-lowAt t k = getD t (1186 + k) 0
+abbrev pub low-at : Words → ℕ → ℕ
+low-at t k = getD t (1186 + k) 0
 
-abbrev pub highAt : Words → ℕ → ℕ
-highAt t k = getD t (1698 + k) 0
+abbrev pub high-at : Words → ℕ → ℕ
+high-at t k = getD t (1698 + k) 0
 
-abbrev pub fieldAt : Words → ℕ → T.Field
-fieldAt t k = record { kind = kindAt t k; low = lowAt t k; high = highAt t k }
+abbrev pub field-at : Words → ℕ → T.Field
+field-at t k = record { kind = kind-at t k; low = low-at t k; high = high-at t k }
 
 -- ---- the table
 
 -- the eight bytes of a label word, high byte first
-unfoldable pub labelOf : ℕ → List ℕ
-labelOf w =
+unfoldable pub label-of : ℕ → List ℕ
+label-of w =
     w / 72057594037927936 % 256
     ∷ w / 281474976710656 % 256
     ∷ w / 1099511627776 % 256
@@ -71,66 +71,66 @@ labelOf w =
     ∷ w % 256
     ∷ []
 
-unfoldable pub sortOf : ℕ → T.Sort
-sortOf zero = T.ends
-sortOf (suc zero) = T.sends
-sortOf (suc (suc n)) = T.receives
+unfoldable pub sort-of : ℕ → T.Sort
+sort-of zero = T.ends
+sort-of (suc zero) = T.sends
+sort-of (suc (suc n)) = T.receives
 
-abbrev pub branchAt : Words → ℕ → T.Branch
-branchAt t k =
+abbrev pub branch-at : Words → ℕ → T.Branch
+branch-at t k =
     record {
-      owner = ownerAt t k;
-      label = labelOf (wordAt t k);
-      fields = upto (countAt t k) (λ f. fieldAt t (4 * k + f));
-      target = targetAt t k;
+      owner = owner-at t k;
+      label = label-of (word-at t k);
+      fields = upto (count-at t k) (λ f. field-at t (4 * k + f));
+      target = target-at t k;
     }
 
 unfoldable pub view : Words → T.Table
-view t = record { sorts = upto (statesOf t) (λ i. sortOf (sortAt t i)); branches = upto (branchesOf t) (branchAt t) }
+view t = record { sorts = upto (states-of t) (λ i. sort-of (sort-at t i)); branches = upto (branches-of t) (branch-at t) }
 
 -- what only a raw table can break and `view` does not show: a sort's code that is none
 unfoldable pub known : Words → Bool
-known t = every (λ c. leb c 2) (upto (statesOf t) (sortAt t))
+known t = every (λ c. leb c 2) (upto (states-of t) (sort-at t))
 
 -- question 9: is the table sound?
-unfoldable pub soundOf : Words → Bool
-soundOf t = known t && T.sound (view t)
+unfoldable pub sound-of : Words → Bool
+sound-of t = known t && T.sound (view t)
 
 -- question 9 where a position is given: is it one of the table's states, too?
-unfoldable pub soundAt : Words → ℕ → Bool
-soundAt t position = soundOf t && ltb position (statesOf t)
+unfoldable pub sound-at : Words → ℕ → Bool
+sound-at t position = sound-of t && ltb position (states-of t)
 
 -- ---- the dual
 
-unfoldable pub emptyTable : Words
-emptyTable = replicate 2340 0
+unfoldable pub empty-table : Words
+empty-table = replicate 2340 0
 
 -- 1 and 2 are exchanged
-unfoldable pub oppositeOf : ℕ → ℕ
-oppositeOf zero = 0
-oppositeOf (suc zero) = 2
-oppositeOf (suc (suc zero)) = 1
-oppositeOf (suc (suc (suc n))) = suc (suc (suc n))
+unfoldable pub opposite-of : ℕ → ℕ
+opposite-of zero = 0
+opposite-of (suc zero) = 2
+opposite-of (suc (suc zero)) = 1
+opposite-of (suc (suc (suc n))) = suc (suc (suc n))
 
 -- the first n numbers
 unfoldable pub opposites : ℕ → List ℕ → List ℕ
 opposites zero r = r
 opposites (suc n) [] = []
-opposites (suc n) (a ∷ r) = oppositeOf a ∷ opposites n r
+opposites (suc n) (a ∷ r) = opposite-of a ∷ opposites n r
 
 -- the first n sorts
-unfoldable pub turnedTo : ℕ → Words → Words
-turnedTo n [] = []
-turnedTo n (a ∷ []) = a ∷ []
-turnedTo n (a ∷ b ∷ r) = a ∷ b ∷ opposites n r
+unfoldable pub turned-to : ℕ → Words → Words
+turned-to n [] = []
+turned-to n (a ∷ []) = a ∷ []
+turned-to n (a ∷ b ∷ r) = a ∷ b ∷ opposites n r
 
 abbrev pub turned : Words → Words
-turned t = turnedTo 32 t
+turned t = turned-to 32 t
 
 -- 0 and the dual; of a table that is not sound 9 and the empty table
 abbrev pub dual-answer : Words → Bool → Turned
 dual-answer t true = record { question = 0; table = turned t }
-dual-answer t false = record { question = 9; table = emptyTable }
+dual-answer t false = record { question = 9; table = empty-table }
 
-unfoldable pub dualOf : Words → Turned
-dualOf t = dual-answer t (soundOf t)
+unfoldable pub dual-of : Words → Turned
+dual-of t = dual-answer t (sound-of t)

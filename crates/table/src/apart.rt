@@ -2,8 +2,8 @@
 ghost use mathlib.Core.Path.{_≡_};
 ghost use Prim.Native.Nat.{_≤_, _<_};
 ghost use lib.Dec.{eqb};
-ghost use Rattle.table.specs.View.{labelWord};
-ghost use Rattle.table.specs.Scans.{all, alone, markOf};
+ghost use Rattle.table.specs.View.{joined-label};
+ghost use Rattle.table.specs.Scans.{all, alone, mark-of};
 use super::Table;
 
 // Whether there is none among the first n branches. The filter is a set of 4,096 marks: a branch whose mark is not yet in it has no
@@ -33,7 +33,7 @@ pub fn all_apart(t: &Table, n: usize) -> bool
 
 // A number below 4,096 that owner and label decide.
 fn mark(owner: u32, label: u64) -> usize
-    ensures { λ r. ⌜ (r ≡ markOf owner label) × (r < 4096) ⌝ }
+    ensures { λ r. ⌜ (r ≡ mark-of owner label) × (r < 4096) ⌝ }
 {
     let folded = label / 4294967296 + label % 4294967296;
     ((folded * 1640531527 / 16777216 + owner as u64 * 9) % 4096) as usize
@@ -60,7 +60,7 @@ pub fn is_alone(t: &Table, i: usize) -> bool
 
 // Whether two labels are the same, each as its two words.
 fn same_label(high: u32, low: u32, top: u32, rest: u32) -> bool
-    ensures { λ r. ⌜ r ≡ eqb (labelWord high low) (labelWord top rest) ⌝ }
+    ensures { λ r. ⌜ r ≡ eqb (joined-label high low) (joined-label top rest) ⌝ }
 {
     (high == top) & (low == rest)
 }

@@ -2,7 +2,7 @@
 ghost use mathlib.Core.Path.{_≡_};
 ghost use mathlib.Core.Bool.{true};
 ghost use Prim.Native.Nat.{_+_, _≤_, _<_};
-ghost use Rattle.table.specs.Scans.{all, legalAt, in-place, Members, Passed};
+ghost use Rattle.table.specs.Scans.{all, legal-at, in-place, Members, PassedBranches};
 use super::Scan;
 use super::Table;
 use super::apart;
@@ -11,7 +11,7 @@ use super::letters;
 // Whether the first n branches are in order in a table of m states, and the set of their owners.
 pub fn owners(t: &Table, n: usize, m: u32) -> Scan
     requires { ⌜ (n ≤ 128) × (m ≤ 32) ⌝ }
-    ensures { λ r. ⌜ Passed (now (t .entry)) n m (r .ok) (r .set) ⌝ }
+    ensures { λ r. ⌜ PassedBranches (now (t .entry)) n m (r .ok) (r .set) ⌝ }
 {
     if n <= 8 {
         return few(t, n, m);
@@ -28,7 +28,7 @@ pub fn owners(t: &Table, n: usize, m: u32) -> Scan
 // All that is asked of a branch, then the next: for few branches, to begin a pass costs more than the pass.
 fn few(t: &Table, n: usize, m: u32) -> Scan
     requires { ⌜ (n ≤ 128) × (m ≤ 32) ⌝ }
-    ensures { λ r. ⌜ Passed (now (t .entry)) n m (r .ok) (r .set) ⌝ }
+    ensures { λ r. ⌜ PassedBranches (now (t .entry)) n m (r .ok) (r .set) ⌝ }
 {
     let mut set: u32 = 0;
     let mut k: usize = 0;
@@ -86,7 +86,7 @@ fn in_place(t: &Table, k: usize, m: u32) -> bool
 // Whether the ranges of `count` fields from place `at` on are legal.
 fn ranges_legal(t: &Table, at: usize, count: u32) -> bool
     requires { ⌜ (at ≤ 508) × (count ≤ 4) ⌝ }
-    ensures { λ r. ⌜ r ≡ all count (λ f. legalAt (now (t .entry)) (at + f)) ⌝ }
+    ensures { λ r. ⌜ r ≡ all count (λ f. legal-at (now (t .entry)) (at + f)) ⌝ }
 {
     let mut f: u32 = 0;
     while f < count {

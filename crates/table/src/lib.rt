@@ -4,7 +4,7 @@
 ghost use mathlib.Core.Path.{_≡_};
 ghost use Prim.Native.Nat.{_<_};
 ghost use Rattle.table.specs.Table.{legal-label, legal-field};
-ghost use Rattle.table.specs.View.{labelWord, wordAt, labelOf, soundOf, soundAt, emptyTable, oppositeOf, turned, dualOf};
+ghost use Rattle.table.specs.View.{joined-label, word-at, label-of, sound-of, sound-at, empty-table, opposite-of, turned, dual-of};
 ghost use Rattle.table.specs.Scans.{Word};
 
 mod apart;
@@ -50,7 +50,7 @@ pub const HIGH: usize = 1698;
 
 // Question 9: is the table sound? The states that are choices are those that own a branch.
 pub fn sound(t: &Table) -> bool
-    ensures { λ r. ⌜ r ≡ soundOf (now (t .entry)) ⌝ }
+    ensures { λ r. ⌜ r ≡ sound-of (now (t .entry)) ⌝ }
 {
     let m = t[STATES];
     let n = t[BRANCHES];
@@ -76,7 +76,7 @@ pub fn sound(t: &Table) -> bool
 
 // Question 9 where a position is given: is it one of the table's states, too?
 pub fn sound_at(t: &Table, position: u32) -> bool
-    ensures { λ r. ⌜ r ≡ soundAt (now (t .entry)) position ⌝ }
+    ensures { λ r. ⌜ r ≡ sound-at (now (t .entry)) position ⌝ }
 {
     if !sound(t) {
         return false;
@@ -93,21 +93,21 @@ struct Scan {
 // The label of branch k.
 fn label(t: &Table, k: usize) -> u64
     requires { ⌜ k < 128 ⌝ }
-    ensures { λ r. ⌜ r ≡ wordAt (now (t .entry)) k ⌝ }
+    ensures { λ r. ⌜ r ≡ word-at (now (t .entry)) k ⌝ }
 {
     label_word(t[LABEL_HIGH + k], t[LABEL_LOW + k])
 }
 
 // A label's two words as one.
 pub fn label_word(high: u32, low: u32) -> u64
-    ensures { λ r. ⌜ r ≡ labelWord high low ⌝ }
+    ensures { λ r. ⌜ r ≡ joined-label high low ⌝ }
 {
     high as u64 * 4294967296 + low as u64
 }
 
 // Letters and digits, the first in A-Z, then 0x00 to the end.
 pub fn label_legal(w: u64) -> bool
-    ensures { λ r. ⌜ (r ≡ legal-label (labelOf w)) × Word w ⌝ }
+    ensures { λ r. ⌜ (r ≡ legal-label (label-of w)) × Word w ⌝ }
 {
     letters::bad_bytes(w) & letters::HIGH_BITS == 0
 }
@@ -143,7 +143,7 @@ pub struct Turned {
 
 // The dual exchanges sending and receiving.
 pub fn dual(t: &Table) -> Turned
-    ensures { λ r. ⌜ r ≡ dualOf (now (t .entry)) ⌝ }
+    ensures { λ r. ⌜ r ≡ dual-of (now (t .entry)) ⌝ }
 {
     if !sound(t) {
         return Turned {
@@ -173,7 +173,7 @@ fn turn(t: &mut Table)
 }
 
 fn opposite_sort(s: u32) -> u32
-    ensures { λ r. ⌜ r ≡ oppositeOf s ⌝ }
+    ensures { λ r. ⌜ r ≡ opposite-of s ⌝ }
 {
     if s == 1 {
         return 2;
@@ -186,7 +186,7 @@ fn opposite_sort(s: u32) -> u32
 
 // The table that a refusal gives back.
 pub fn empty() -> Table
-    ensures { λ r. ⌜ r ≡ emptyTable ⌝ }
+    ensures { λ r. ⌜ r ≡ empty-table ⌝ }
 {
     [0; 2340]
 }

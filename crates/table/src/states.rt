@@ -3,7 +3,7 @@ ghost use mathlib.Core.Path.{_≡_};
 ghost use mathlib.Core.Bool.{true};
 ghost use Prim.Native.Nat.{_≤_};
 ghost use lib.Dec.{leb};
-ghost use Rattle.table.specs.View.{sortAt};
+ghost use Rattle.table.specs.View.{sort-at};
 ghost use Rattle.table.specs.Scans.{all, Choices};
 use super::Scan;
 use super::Table;
@@ -12,7 +12,7 @@ use super::Table;
 // before it up by one.
 pub fn choices(t: &Table, n: usize) -> Scan
     requires { ⌜ n ≤ 32 ⌝ }
-    ensures { λ r. ⌜ (r .ok ≡ all n (λ k. leb (sortAt (now (t .entry)) k) 2))
+    ensures { λ r. ⌜ (r .ok ≡ all n (λ k. leb (sort-at (now (t .entry)) k) 2))
         × (r .ok ≡ true → Choices (now (t .entry)) n (r .set)) ⌝ }
 {
     let mut set: u32 = 0;

@@ -11,7 +11,7 @@ use borrow.Author.Tests.{leb-true}
 use Rattle.table.specs.Lists.{first-no}
 use Rattle.text.proofs.Asked.{asked}
 use Rattle.text.specs.Building.{denied}
-use Rattle.text.specs.Token.{tokenAt, tokensFrom, tokens}
+use Rattle.text.specs.Token.{token-at, tokens-from, tokens}
 use Rattle.text.specs.Reading.{State, questions, taken, run-tokens, start, built, reads}
 use Rattle.text.specs.declared.token.Token.{Token}
 use Rattle.text.specs.Filled.{Reading}
@@ -21,20 +21,20 @@ abbrev Small : List (ℕ × Bool) → Type 0
 Small [] = Unit {0}
 Small (q ∷ qs) = (q .0 ≤ 8) × Small qs
 
-place-within : (n : ℕ) (s : List ℕ) (p : ℕ) (st : State) → run-tokens s st (tokensFrom n s p) .at ≤ length s
-unfolding run-tokens tokensFrom denied
+place-within : (n : ℕ) (s : List ℕ) (p : ℕ) (st : State) → run-tokens s st (tokens-from n s p) .at ≤ length s
+unfolding run-tokens tokens-from denied
 place-within zero s p st = zero-le
-place-within (suc n) s p st = go (eqb (asked s st (tokenAt s p)) 0) (place-within n s (tokenAt s p .end) (taken s st (tokenAt s p)))
+place-within (suc n) s p st = go (eqb (asked s st (token-at s p)) 0) (place-within n s (token-at s p .end) (taken s st (token-at s p)))
   where
-    on : (b : Bool) → run-tokens s (taken s st (tokenAt s p)) (tokensFrom n s (tokenAt s p .end)) .at ≤ length s
-        → run-tokens s (taken s st (tokenAt s p)) (cond b [] (tokensFrom n s (tokenAt s p .end))) .at ≤ length s
+    on : (b : Bool) → run-tokens s (taken s st (token-at s p)) (tokens-from n s (token-at s p .end)) .at ≤ length s
+        → run-tokens s (taken s st (token-at s p)) (cond b [] (tokens-from n s (token-at s p .end))) .at ≤ length s
     on true h = zero-le
     on false h = h
 
-    go : (b : Bool) → run-tokens s (taken s st (tokenAt s p)) (tokensFrom n s (tokenAt s p .end)) .at ≤ length s
-        → cond b (run-tokens s (taken s st (tokenAt s p)) (cond (eqb (tokenAt s p .kind) 0) [] (tokensFrom n s (tokenAt s p .end)))) (denied (asked s st (tokenAt s p)) (tokenAt s p .start)) .at
+    go : (b : Bool) → run-tokens s (taken s st (token-at s p)) (tokens-from n s (token-at s p .end)) .at ≤ length s
+        → cond b (run-tokens s (taken s st (token-at s p)) (cond (eqb (token-at s p .kind) 0) [] (tokens-from n s (token-at s p .end)))) (denied (asked s st (token-at s p)) (token-at s p .start)) .at
         ≤ length s
-    go true h = on (eqb (tokenAt s p .kind) 0) h
+    go true h = on (eqb (token-at s p .kind) 0) h
     go false h = let w = token-spans s p in omega (arith, w .forward, w .inside)
 
 -- a question's number is at most 8

@@ -5,7 +5,7 @@ use mathlib.Core.Bool.{true}
 use mathlib.Core.List.{List, _∷_, _++_, map}
 use mathlib.Core.Option.{Option, some}
 use Prim.Native.Nat.{ℕ}
-use Rattle.table.specs.View.{Words, view, soundOf}
+use Rattle.table.specs.View.{Words, view, sound-of}
 use Rattle.table.specs.declared.Party.the-variants.{Device}
 use Rattle.message.specs.Rules.{Rules, table-rules, next, led}
 use Rattle.monitor.specs.Step.{fresh, told, blamed}
@@ -36,11 +36,11 @@ NeverAnswered answers =
 -- where no list of moves on the machine ends badly
 abbrev pub FitsUnblamed : Type 1
 FitsUnblamed =
-    (D : Type 0) (d : Rules D) (p : Words) → soundOf p ≡ true → Safe d (table-rules (view p))
+    (D : Type 0) (d : Rules D) (p : Words) → sound-of p ≡ true → Safe d (table-rules (view p))
     → (sent : List Sent) → Keeps d p sent → Unblamed d p sent
 
 -- and so of every list of answers that keep the promise of `step` or of `advance`
 abbrev pub FitsUnanswered : Type 1
 FitsUnanswered =
-    (D : Type 0) (d : Rules D) (p : Words) → soundOf p ≡ true → Safe d (table-rules (view p))
+    (D : Type 0) (d : Rules D) (p : Words) → sound-of p ≡ true → Safe d (table-rules (view p))
     → (answers : List Reply) → Kept p fresh answers → Keeps d p (map (λ (a : Reply). a .sent) answers) → NeverAnswered answers

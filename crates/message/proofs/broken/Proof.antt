@@ -3,7 +3,7 @@ use mathlib.Core.Path.{sym, ap, _∙_}
 use lib.Dec.{eqb}
 use borrow.Author.Needs.{needs}
 use borrow.Author.Tests.{not-true, not-false}
-use Rattle.message.specs.Message.{frontOf}
+use Rattle.message.specs.Message.{front-of}
 use Rattle.message.proofs.Waits.{broken-short, broken-closed, broken-fields}
 use Rattle.message.proofs.broken.Statement.{statement}
 use Rattle.message.proofs.broken.Tie as tie
@@ -15,7 +15,7 @@ returns-2 : tie.Need-returns-2
 returns-2 c = broken-closed _ (c .before .before .if1 .left) (sym (c .before .opens .ensures) ∙ not-true _ (c .if2 .taken))
 
 returns-3 : tie.Need-returns-3
-unfolding frontOf
+unfolding front-of
 returns-3 c =
     ap (λ h. eqb (h .question) 14) (c .before .front .ensures)
     ∙ broken-fields _ (c .before .before .before .before .if1 .left) (sym (c .before .before .before .opens .ensures) ∙ not-false _ (c .before .before .if2 .left))

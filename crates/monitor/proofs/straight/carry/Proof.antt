@@ -10,7 +10,7 @@ use borrow.Author.Needs.{needs}
 use borrow.Author.Count.{below-more}
 use borrow.Author.Tests.{not-false}
 use Rattle.table.specs.Lists.{upto}
-use Rattle.table.specs.View.{kindAt}
+use Rattle.table.specs.View.{kind-at}
 use Rattle.table.specs.Scans.{all}
 use Rattle.table.proofs.Lists.{never, all-yes, all-end}
 use Rattle.message.specs.Message.{number-at, count-of, text-bytes, legal-value}
@@ -56,7 +56,7 @@ here c = c .before .before .before .before .before .before .before .before .befo
 number-is : (c : tie.Else3 Inv-loop μ-loop) → c .before .before .before .before .number .result ≡ value-at (start c .args .message .now) (here c .loop .f) .number
 number-is c = c .before .before .before .before .number .ensures ∙ ap (λ n. number-at (start c .args .message .now) (n + 4 * here c .loop .f)) (here c .loop .inv .2)
 
-kind-same : (c : tie.Else3 Inv-loop μ-loop) → value-at (start c .args .message .now) (here c .loop .f) .kind ≡ kindAt (start c .args .t .now) (start c .args .at + here c .loop .f)
+kind-same : (c : tie.Else3 Inv-loop μ-loop) → value-at (start c .args .message .now) (here c .loop .f) .kind ≡ kind-at (start c .args .t .now) (start c .args .at + here c .loop .f)
 kind-same c = sym (c .before .before .before .before .before .before .before .wide .ensures) ∙ c .before .before .before .before .before .if1 .left
 
 held : (c : tie.Else3 Inv-loop μ-loop) → legal-value (value-at (start c .args .message .now) (here c .loop .f)) ≡ true

@@ -5,10 +5,10 @@ use native.Mathlib.Omega.{arith}
 use lib.ListN.{getD}
 use borrow.Author.Needs.{needs}
 use borrow.Author.Tests.{not-false}
-use Rattle.table.specs.View.{branchesOf, countAt}
+use Rattle.table.specs.View.{branches-of, count-at}
 use Rattle.table.proofs.Facts.{Facts, sound-facts}
 use Rattle.message.specs.Message.{count-of, label-word}
-use Rattle.monitor.specs.Leaves.{named, First}
+use Rattle.monitor.specs.Leaves.{branch-named, First}
 use Rattle.monitor.proofs.Carrying.{straight}
 use Rattle.monitor.proofs.straight.leads_to.Statement.{statement}
 use Rattle.monitor.proofs.straight.leads_to.Tie as tie
@@ -23,11 +23,11 @@ facts c = sound-facts _ (start c .pre)
 bytes : (c : tie.After-find) (k : ℕ) → getD (start c .args .message .now) k 0 < 256
 bytes c k = omega (arith, c .before .before .before .before .before .before .before .shared-slice-known .given k)
 
-first : (c : tie.After-find) → let a = start c .args in First (named (a .t .now) (a .position) (label-word (a .message .now))) (branchesOf (a .t .now)) (c .find .result)
-first c = let a = start c .args in subst (λ x. First (named (a .t .now) (a .position) x) (branchesOf (a .t .now)) (c .find .result)) (c .before .label-word .ensures) (c .find .ensures .0)
+first : (c : tie.After-find) → let a = start c .args in First (branch-named (a .t .now) (a .position) (label-word (a .message .now))) (branches-of (a .t .now)) (c .find .result)
+first c = let a = start c .args in subst (λ x. First (branch-named (a .t .now) (a .position) x) (branches-of (a .t .now)) (c .find .result)) (c .before .label-word .ensures) (c .find .ensures .0)
 
 -- and once it was found
-few : (c : tie.Else4) → countAt (start (c .before) .args .t .now) (c .before .find .result) ≤ 4
+few : (c : tie.Else4) → count-at (start (c .before) .args .t .now) (c .before .find .result) ≤ 4
 few c = facts (c .before) .counts _ (c .if4 .left)
 
 place : (c : tie.Else4) → c .before .find .result < 128

@@ -1,15 +1,15 @@
 -- `sojimu::fits::high_code` meets its contract. Assumes nothing.
 use borrow.Author.Needs.{needs}
-use Rattle.message.specs.Make.{highOf}
+use Rattle.message.specs.Make.{high-of}
 use Rattle.sojimu.proofs.fits.high_code.Statement.{statement}
 use Rattle.sojimu.proofs.fits.high_code.Tie as tie
 
 returns : tie.Need-returns
-unfolding highOf
+unfolding high-of
 returns c = search needs
 
 returns-2 : tie.Need-returns-2
-unfolding highOf
+unfolding high-of
 returns-2 c = rw (c .before .field .given .1)
 
 pub high-code-spec : {M : Type 1} → statement M

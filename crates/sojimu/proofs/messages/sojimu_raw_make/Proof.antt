@@ -4,16 +4,16 @@ use mathlib.Core.List.{List}
 use Prim.Native.Nat.{ℕ}
 use borrow.Author.Needs.{needs}
 use Rattle.message.specs.Make.{Making}
-use Rattle.sojimu.specs.Codes.{madeCodes}
+use Rattle.sojimu.specs.Codes.{made-codes}
 use Rattle.sojimu.specs.declared.messages.Made.{Made}
 use Rattle.sojimu.proofs.messages.sojimu_raw_make.Statement.{statement}
 use Rattle.sojimu.proofs.messages.sojimu_raw_make.Tie as tie
 
 -- what is told of one making is told of its equal
-told-of : (m n : Making) (r : Made) (numbers : ℕ × ℕ) (buffer : List ℕ) → m ≡ n → r ≡ madeCodes numbers → numbers ≡ m .numbers → buffer ≡ m .buffer
-    → (r ≡ madeCodes (n .numbers)) × (buffer ≡ n .buffer)
+told-of : (m n : Making) (r : Made) (numbers : ℕ × ℕ) (buffer : List ℕ) → m ≡ n → r ≡ made-codes numbers → numbers ≡ m .numbers → buffer ≡ m .buffer
+    → (r ≡ made-codes (n .numbers)) × (buffer ≡ n .buffer)
 told-of m n r numbers buffer e a b c =
-    (a ∙ ap madeCodes (b ∙ ap (λ (m : Making). m .numbers) e), c ∙ ap (λ (m : Making). m .buffer) e)
+    (a ∙ ap made-codes (b ∙ ap (λ (m : Making). m .numbers) e), c ∙ ap (λ (m : Making). m .buffer) e)
 
 returns : tie.Need-returns
 returns c =

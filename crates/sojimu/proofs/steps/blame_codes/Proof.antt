@@ -5,13 +5,13 @@ use Rattle.table.specs.declared.Party.{Party}
 use Rattle.monitor.specs.declared.Reason.{Reason}
 use Rattle.monitor.specs.declared.Verdict.the-variants.{Blamed}
 use Rattle.monitor.specs.Step.{reason, outside, told}
-use Rattle.sojimu.specs.Codes.{verdictCodes}
+use Rattle.sojimu.specs.Codes.{verdict-codes}
 use Rattle.sojimu.proofs.steps.blame_codes.Statement.{statement}
 use Rattle.sojimu.proofs.steps.blame_codes.Tie as tie
 
 -- the codes of a blame for an equal reason
-again : (side : Party) {v w : Reason} → w ≡ v → verdictCodes (told (Blamed side v)) ≡ verdictCodes (told (Blamed side w))
-again side e = ap (λ w. verdictCodes (told (Blamed side w))) (sym e)
+again : (side : Party) {v w : Reason} → w ≡ v → verdict-codes (told (Blamed side v)) ≡ verdict-codes (told (Blamed side w))
+again side e = ap (λ w. verdict-codes (told (Blamed side w))) (sym e)
 
 returns : tie.Need-returns
 unfolding told reason outside

@@ -3,11 +3,11 @@ use mathlib.Core.Path.{_≡_, refl}
 use Prim.Native.Nat.{ℕ, zero, suc}
 use borrow.Author.Needs.{needs}
 use Rattle.monitor.specs.declared.Standing.the-variants.{HostBlamed}
-use Rattle.sojimu.specs.Codes.{standingOf}
+use Rattle.sojimu.specs.Codes.{standing-of}
 use Rattle.sojimu.proofs.steps.standing_of.Statement.{statement}
 use Rattle.sojimu.proofs.steps.standing_of.Tie as tie
 
-other : (n : ℕ) → (n ≡ 0 → ⊥) → (n ≡ 1 → ⊥) → HostBlamed ≡ standingOf n
+other : (n : ℕ) → (n ≡ 0 → ⊥) → (n ≡ 1 → ⊥) → HostBlamed ≡ standing-of n
 other zero a b = absurd (a refl)
 other (suc zero) a b = absurd (b refl)
 other (suc (suc n)) a b = refl

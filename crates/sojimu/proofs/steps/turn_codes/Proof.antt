@@ -1,15 +1,15 @@
 -- `sojimu::steps::turn_codes` meets its contract. Assumes nothing.
 use borrow.Author.Needs.{needs}
-use Rattle.monitor.specs.Due.{turn}
+use Rattle.monitor.specs.Due.{turn-answer}
 use Rattle.sojimu.proofs.steps.turn_codes.Statement.{statement}
 use Rattle.sojimu.proofs.steps.turn_codes.Tie as tie
 
 returns : tie.Need-returns
-unfolding turn
+unfolding turn-answer
 returns c = rw (c .before .t .given .1)
 
 returns-2 : tie.Need-returns-2
-unfolding turn
+unfolding turn-answer
 returns-2 c = rw (c .party-code .ensures, c .before .before .t2 .given .1)
 
 pub turn-codes-spec : {M : Type 1} → statement M

@@ -5,7 +5,7 @@ use Prim.Native.Nat.{_+_, _-_, _≤_, _<_}
 use native.Mathlib.Omega.{arith}
 use lib.ListN.{getD}
 use borrow.Author.Needs.{needs}
-use Rattle.table.specs.View.{ownerAt}
+use Rattle.table.specs.View.{owner-at}
 use Rattle.table.specs.Scans.{all, twins}
 use Rattle.table.proofs.Lists.{all-yes, all-no, all-end}
 use Rattle.table.proofs.Twins.{twins-are}
@@ -14,7 +14,7 @@ use Rattle.table.proofs.apart.is_alone.Tie as tie
 
 abbrev Inv-loop : tie.InvT-loop
 Inv-loop t i owner high low k₀ k =
-    (k ≤ i) × (i < 128) × (owner ≡ ownerAt t i) × (high ≡ getD t (418 + i) 0) × (low ≡ getD t (546 + i) 0) × (true ≡ all k (λ j. not (twins t i j)))
+    (k ≤ i) × (i < 128) × (owner ≡ owner-at t i) × (high ≡ getD t (418 + i) 0) × (low ≡ getD t (546 + i) 0) × (true ≡ all k (λ j. not (twins t i j)))
 
 abbrev μ-loop : tie.MeasureT-loop
 μ-loop t i owner high low k₀ k = i - k

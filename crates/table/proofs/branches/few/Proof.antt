@@ -9,7 +9,7 @@ use borrow.Author.Tests.{not-true, not-false}
 use borrow.Author.Needs.{needs}
 use Rattle.bits.proofs.Laws.{with-below}
 use Rattle.table.specs.Table.{legal-label}
-use Rattle.table.specs.View.{wordAt, labelOf}
+use Rattle.table.specs.View.{word-at, label-of}
 use Rattle.table.specs.Scans.{all, in-order, Word, Members}
 use Rattle.table.proofs.Lists.{all-yes, all-end, never}
 use Rattle.table.proofs.Sets.{members-none, members-more, members-end}
@@ -19,7 +19,7 @@ use Rattle.table.proofs.branches.few.Tie as tie
 
 abbrev Inv-loop : tie.InvT-loop
 Inv-loop t n m set₀ k₀ set k =
-    (k ≤ n) × (n ≤ 128) × (m ≤ 32) × (true ≡ all k (in-order t m)) × Members t k set × ((i : ℕ) → i < k → Word (wordAt t i))
+    (k ≤ n) × (n ≤ 128) × (m ≤ 32) × (true ≡ all k (in-order t m)) × Members t k set × ((i : ℕ) → i < k → Word (word-at t i))
 
 abbrev μ-loop : tie.MeasureT-loop
 μ-loop t n m set₀ k₀ set k = n - k
@@ -37,7 +37,7 @@ returns-2 : tie.Need-returns-2 Inv-loop μ-loop
 returns-2 c =
     stopped _ _ _ (c .before .before .before .before .before .before .loop .k) _ (omega arith)
     (λ e. never (in-order-parts _ _ _ e .1)
-    (ap (λ w. legal-label (labelOf w)) (sym (c .before .before .label .ensures)) ∙ sym (c .before .label-legal .ensures .0) ∙ not-true _ (c .if2 .taken)))
+    (ap (λ w. legal-label (label-of w)) (sym (c .before .before .label .ensures)) ∙ sym (c .before .label-legal .ensures .0) ∙ not-true _ (c .if2 .taken)))
 
 returns-3 : tie.Need-returns-3 Inv-loop μ-loop
 returns-3 c =
@@ -49,7 +49,7 @@ loop-again c =
     let i = c .before .before .before .before .before .before .before .before .before .before .loop .inv in
     let l = c .before .before .before .before .before .before .label .ensures in
     let p = sym (c .before .before .before .before .before .before .before .before .in-place .ensures) ∙ not-false _ (c .before .before .before .before .before .before .before .if1 .left) in
-    let q = ap (λ w. legal-label (labelOf w)) (sym l) ∙ sym (c .before .before .before .before .before .label-legal .ensures .0) ∙ not-false _ (c .before .before .before .before .if2 .left) in
+    let q = ap (λ w. legal-label (label-of w)) (sym l) ∙ sym (c .before .before .before .before .before .label-legal .ensures .0) ∙ not-false _ (c .before .before .before .before .if2 .left) in
     let r = sym (c .before .before .before .is-alone .ensures) ∙ not-false _ (c .before .before .if3 .left) in (
       search needs,
       search needs,

@@ -7,7 +7,7 @@ use native.Mathlib.Omega.{arith}
 use borrow.Author.Count.{below-more}
 use borrow.Author.Needs.{needs}
 use Rattle.table.specs.Table.{legal-label}
-use Rattle.table.specs.View.{wordAt, labelOf}
+use Rattle.table.specs.View.{word-at, label-of}
 use Rattle.table.specs.Scans.{all, clear, Word}
 use Rattle.table.proofs.Lists.{all-end}
 use Rattle.table.proofs.Labels.{clear-more}
@@ -16,7 +16,7 @@ use Rattle.table.proofs.letters.all_legal.Tie as tie
 
 abbrev Inv-loop : tie.InvT-loop
 Inv-loop t n bad₀ k₀ bad k =
-    (k ≤ n) × (n ≤ 128) × (clear bad ≡ all k (λ k. legal-label (labelOf (wordAt t k)))) × ((i : ℕ) → i < k → Word (wordAt t i))
+    (k ≤ n) × (n ≤ 128) × (clear bad ≡ all k (λ k. legal-label (label-of (word-at t k)))) × ((i : ℕ) → i < k → Word (word-at t i))
 
 abbrev μ-loop : tie.MeasureT-loop
 μ-loop t n bad₀ k₀ bad k = n - k
@@ -31,7 +31,7 @@ loop-again c =
     let i = c .before .before .before .loop .inv in (
       search needs,
       search needs,
-      clear-more _ (c .before .before .before .loop .k) (c .before .before .before .loop .bad) (c .bad-bytes .result) (i .2) (c .bad-bytes .ensures ∙ ap (λ w. legal-label (labelOf w)) l),
+      clear-more _ (c .before .before .before .loop .k) (c .before .before .before .loop .bad) (c .bad-bytes .result) (i .2) (c .bad-bytes .ensures ∙ ap (λ w. legal-label (label-of w)) l),
       below-more _ _ (i .3) (subst Word l (search needs)),
     )
 

@@ -2,7 +2,7 @@
 use mathlib.Core.Path.{sym, _∙_}
 use native.Mathlib.Omega.{arith}
 use borrow.Author.Needs.{needs}
-use Rattle.text.specs.Recursive.{nextAt}
+use Rattle.text.specs.Recursive.{next-at}
 use Rattle.text.proofs.Here.{last-passed, comma-passed}
 use Rattle.text.proofs.step.next_part.Statement.{statement}
 use Rattle.text.proofs.step.next_part.Tie as tie
@@ -17,7 +17,7 @@ returns-2 c =
     (sym (c .before .is-at2 .ensures .0) ∙ c .if2 .taken)
 
 returns-3 : tie.Need-returns-3
-unfolding nextAt
+unfolding next-at
 returns-3 c = rw (← c .before .token-at .ensures .0) (c .next-of .ensures)
 
 pub next-part-spec : {M : Type 1} → statement M

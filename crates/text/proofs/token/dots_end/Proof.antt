@@ -4,13 +4,13 @@ use Prim.Native.Nat.{_-_}
 use native.Mathlib.Omega.{arith}
 use borrow.Author.Tests.{eq-eqb, ne-eqb}
 use lib.ListN.{length}
-use Rattle.text.specs.Token.{isDot, runEnd}
+use Rattle.text.specs.Token.{is-dot, run-end}
 use Rattle.text.proofs.Runs.{run-on, run-off, run-out}
 use Rattle.text.proofs.token.dots_end.Statement.{statement}
 use Rattle.text.proofs.token.dots_end.Tie as tie
 
 abbrev Inv-loop : tie.InvT-loop
-Inv-loop s p i₀ i = runEnd isDot s p ≡ runEnd isDot s i
+Inv-loop s p i₀ i = run-end is-dot s p ≡ run-end is-dot s i
 
 abbrev μ-loop : tie.MeasureT-loop
 μ-loop s p i₀ i = length s - i
@@ -18,15 +18,15 @@ abbrev μ-loop : tie.MeasureT-loop
 returns : tie.Need-returns Inv-loop μ-loop
 returns c =
     let l = c .before .before .before in
-    sym (l .loop .inv ∙ run-off isDot _ _ (c .before .before .loop-test .taken) (ne-eqb _ _ (c .if1 .taken)))
+    sym (l .loop .inv ∙ run-off is-dot _ _ (c .before .before .loop-test .taken) (ne-eqb _ _ (c .if1 .taken)))
 
 loop-again : tie.Need-loop-again Inv-loop μ-loop
 loop-again c =
     let l = c .before .before .before in
-    l .loop .inv ∙ run-on isDot _ _ (c .before .before .loop-test .taken) (eq-eqb _ _ (c .if1 .left))
+    l .loop .inv ∙ run-on is-dot _ _ (c .before .before .loop-test .taken) (eq-eqb _ _ (c .if1 .left))
 
 returns-2 : tie.Need-returns-2 Inv-loop μ-loop
-returns-2 c = sym (c .before .loop .inv ∙ run-out isDot _ _ (c .loop-test .left))
+returns-2 c = sym (c .before .loop .inv ∙ run-out is-dot _ _ (c .loop-test .left))
 
 pub dots-end-spec : {M : Type 1} → statement M
 dots-end-spec =

@@ -6,13 +6,13 @@ use borrow.Author.Needs.{needs}
 use borrow.Author.Tests.{not-true, not-false}
 use lib.ListN.{length}
 use Rattle.table.specs.Table.{letter-or-digit}
-use Rattle.text.specs.Token.{runEnd}
+use Rattle.text.specs.Token.{run-end}
 use Rattle.text.proofs.Runs.{run-on, run-off, run-out}
 use Rattle.text.proofs.token.word_end.Statement.{statement}
 use Rattle.text.proofs.token.word_end.Tie as tie
 
 abbrev Inv-loop : tie.InvT-loop
-Inv-loop s p i₀ i = runEnd letter-or-digit s p ≡ runEnd letter-or-digit s i
+Inv-loop s p i₀ i = run-end letter-or-digit s p ≡ run-end letter-or-digit s i
 
 abbrev μ-loop : tie.MeasureT-loop
 μ-loop s p i₀ i = length s - i
