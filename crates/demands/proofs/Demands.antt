@@ -22,8 +22,8 @@ use Rattle.types.proofs.Texts.{text-rules}
 use Rattle.types.proofs.Headline.{type-demand}
 use Rattle.fit.specs.Machine.{Safe, Unsafe}
 use Rattle.together.proofs.Unblamed.{fits-unblamed}
-use Rattle.summary.specs.Report.{Reported}
-use Rattle.summary.proofs.Exactly.{reports-fit, reports-no-fit}
+use Rattle.report.specs.Report.{Reported}
+use Rattle.report.proofs.Exactly.{reports-fit, reports-no-fit}
 use Rattle.demands.specs.Demands.{TextOf, FitOfTexts, ReadOfTexts, OneType, DemandTwoOfTexts, DemandThreeOfTexts, UnblamedOfTexts}
 use Rattle.demands.proofs.Likeness.{alike-itself, safe-like, unsafe-like}
 

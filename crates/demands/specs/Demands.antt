@@ -14,7 +14,7 @@ use Rattle.types.specs.Types.{type-rules}
 use Rattle.monitor.specs.Conversation.{Sent, Watched}
 use Rattle.fit.specs.Machine.{Safe, Unsafe}
 use Rattle.together.specs.Unblamed.{Keeps, Unblamed}
-use Rattle.summary.specs.Report.{fit, no-fit, Reported}
+use Rattle.report.specs.Report.{fit, no-fit, Reported}
 
 -- s is a text of the type t: at most 8,192 bytes that spell t, and t is legal
 pub record TextOf (s : List ℕ) (t : Ty) : Type 0 where

@@ -42,7 +42,7 @@ unfoldable pub step-codes : Words → List ℕ → ℕ → List ℕ → List ℕ
 step-codes t bytes side message out =
     crossing (stepping-as (code-side side) t (state-of (getD bytes 0 0) (getD bytes 1 0)) message out) bytes
 
--- ---- the due due-part
+-- ---- the due part-told
 
 -- the side whose turn it is, and the length of its first message; nothing of the device's where 9, 10 or 11 refuses
 unfoldable pub due-codes : Awaited → List ℕ → List ℕ → Due
@@ -50,13 +50,13 @@ due-codes (of-side Device) device host = record { side = 0; length = first-lengt
 due-codes (of-side Host) device host = record { side = 1; length = first-length host }
 due-codes (D.refused q) device host = record { side = 0; length = 0 }
 
--- the due-part that they name: the first `length` of that side's bytes. It is the due due-part of document 01 (proofs/Due, due-part)
+-- the part-told that they name: the first `length` of that side's bytes. It is the due part-told of document 01 (proofs/Due, part-told)
 unfoldable pub waiting : ℕ → RefT (List ℕ) → RefT (List ℕ) → RefT (List ℕ)
 waiting zero device host = device
 waiting (suc n) device host = host
 
-unfoldable pub due-part : Due → RefT (List ℕ) → RefT (List ℕ) → Seen
-due-part r device host = cut (waiting (r .side) device host) (r .length)
+unfoldable pub part-told : Due → RefT (List ℕ) → RefT (List ℕ) → Seen
+part-told r device host = cut (waiting (r .side) device host) (r .length)
 
 -- ---- the fit check
 

@@ -2,7 +2,7 @@
 ghost use mathlib.Core.Path.{_≡_};
 ghost use Rattle.text.specs.Filled.{given};
 ghost use Rattle.text.specs.Reading.{reads};
-ghost use Rattle.summary.specs.Report.{Written};
+ghost use Rattle.report.specs.Report.{Written};
 use table::Table;
 use text::Refusal;
 
@@ -19,5 +19,5 @@ pub extern "C" fn sojimu_raw_read(text: &[u8], table: &mut Table) -> Refusal
 pub extern "C" fn sojimu_raw_report(protocol: &[u8], device: &[u8], out: &mut [u8]) -> usize
     ensures { λ r. ⌜ Written (now (protocol .entry)) (now (device .entry)) (now (out .entry)) (now (out .exit)) r ⌝ }
 {
-    summary::report(protocol, device, out)
+    report::report(protocol, device, out)
 }

@@ -1,0 +1,79 @@
+-- One message running-at one state, by the monitor's step: the verdict says whether the state allows it, and the state where it leads.
+-- Assumes nothing.
+use mathlib.Core.Path.{_≡_, refl, sym, ap, _∙_}
+use mathlib.Core.Bool.{true, cond}
+use mathlib.Core.List.{List}
+use mathlib.Core.Option.{Option, none, some}
+use Prim.Native.Nat.{ℕ, _≤_}
+use native.Mathlib.Omega.{arith}
+use lib.ListN.{length}
+use Rattle.table.specs.Lists.{first-no}
+use Rattle.table.specs.Table.{Sort, ends, sends, receives, is-choice, sort, speaker, is-party}
+use Rattle.table.specs.View.{Words, view}
+use Rattle.message.specs.Message.{read, well-formed}
+use Rattle.message.specs.Judge.{allows}
+use Rattle.table.specs.declared.Party.{Party}
+use Rattle.table.specs.declared.Party.the-variants.{Device, Host}
+use Rattle.monitor.specs.declared.State.{State}
+use Rattle.monitor.specs.declared.Stepped.{Stepped}
+use Rattle.monitor.specs.declared.Reason.the-variants.{NoLabel, OtherKinds, OutOfRange}
+use Rattle.monitor.specs.declared.Verdict.{Verdict}
+use Rattle.monitor.specs.declared.Verdict.the-variants.{Refused, Blamed, Forwarded}
+use Rattle.monitor.specs.Step.{step-questions, blamed, forwarded, told, Outcome, forwarding, blaming, stepping, outcome}
+use Rattle.together.specs.Together.{running-at}
+use Rattle.together.proofs.Together.{asks, turn, judged-some, judged-none}
+use Rattle.report.specs.Playing.{InTurn}
+
+clash : {X : Type 0} → _≡_ {A = ℕ} 0 1 → X
+clash z = absurd (omega arith)
+
+-- where it is the side's turn 11 and 12 get a yes
+in-turn : (s : Sort) (side : Party) → speaker s ≡ some side
+    → _≡_ {A = ℕ} (cond (is-choice s) (cond (is-party side (speaker s)) 0 12) 11) 0
+unfolding speaker is-party is-choice
+in-turn ends side e = let z : _≡_ {A = ℕ} 0 1 = cc in clash z
+in-turn sends Device e = refl
+in-turn sends Host e = let z : _≡_ {A = ℕ} 0 1 = cc in clash z
+in-turn receives Device e = let z : _≡_ {A = ℕ} 0 1 = cc in clash z
+in-turn receives Host e = refl
+
+-- the verdict and the state after the step, as where the message leads
+unfoldable pub heard-as : Verdict → State → Option ℕ
+heard-as Forwarded s = some (s .position)
+heard-as (Blamed side why) s = none
+heard-as (Refused q) s = none
+
+module _ (t : Words) (i : ℕ) (side : Party) (u : InTurn t i side) (bytes : List ℕ) (formed : well-formed bytes ≡ true) (before : List ℕ)
+    (room : length bytes ≤ length before) (r : Stepped) (after : List ℕ) (e : outcome r after ≡ stepping t (running-at i) side bytes before) where
+  no-question : first-no (step-questions t (running-at i) side bytes (length before)) ≡ 0
+  no-question = asks t (u .sound) i (u .inside) side bytes formed before room ∙ in-turn (sort (view t) i) side (u .turn)
+
+  forwards : {b : ℕ} → allows (view t) i (read bytes) ≡ some b → outcome r after ≡ forwarding b bytes (running-at i) before
+  forwards {b} f =
+      e ∙ turn t (u .sound) i (u .inside) side bytes formed before room no-question
+      ∙ judged-some t (u .sound) i (u .inside) side bytes formed before room b f
+
+  pub hears : heard-as (r .verdict) (r .state) ≡ allows (view t) i (read bytes)
+  unfolding heard-as told outcome forwarding blaming
+  hears = go (allows (view t) i (read bytes)) refl
+    where
+      on : (v : Verdict) (s : State) (b : ℕ) → told v ≡ forwarded → s .position ≡ b → heard-as v s ≡ some b
+      on Forwarded s b f g = ap some g
+      on (Blamed side NoLabel) s b f g = let z : _≡_ {A = ℕ} 0 1 = cc in clash z
+      on (Blamed side OtherKinds) s b f g = let z : _≡_ {A = ℕ} 0 1 = cc in clash z
+      on (Blamed side (OutOfRange n)) s b f g = let z : _≡_ {A = ℕ} 0 1 = cc in clash z
+      on (Refused q) s b f g = let z : _≡_ {A = ℕ} 0 1 = cc in clash z
+
+      off : (v : Verdict) (s : State) {p : Party} {n : ℕ} {o : Option ℕ} → told v ≡ blamed p n o → heard-as v s ≡ none
+      off Forwarded s f = let z : _≡_ {A = ℕ} 0 1 = cc in clash z
+      off (Blamed side why) s f = refl
+      off (Refused q) s f = refl
+
+      go : (a : Option ℕ) → allows (view t) i (read bytes) ≡ a → heard-as (r .verdict) (r .state) ≡ allows (view t) i (read bytes)
+      go (some b) f =
+          let q = forwards f in
+          on (r .verdict) (r .state) b (ap (λ (x : Outcome). x .verdict) q) (ap (λ (x : Outcome). x .state .position) q) ∙ sym f
+      go none f =
+          let w = judged-none t (u .sound) i (u .inside) side bytes formed before room f in
+          let q = e ∙ turn t (u .sound) i (u .inside) side bytes formed before room no-question ∙ w .2 in
+          off (r .verdict) (r .state) (ap (λ (x : Outcome). x .verdict) q) ∙ sym f
