@@ -15,6 +15,7 @@ use Rattle.table.specs.Lists.{first-no}
 use Rattle.table.specs.Table.{legal-label}
 use Rattle.table.proofs.Lists.{never, decided}
 use Rattle.message.specs.Message.{count-of, whole, legal-values, front, opens, broken}
+use Rattle.message.specs.Theorems.{NeverMended, UnbrokenAnnounces}
 use Rattle.message.proofs.Reading.{not-whole, whole-last, whole-opens, opens-parts, front-parts, cut-front}
 
 -- ---- as the program asks
@@ -68,7 +69,7 @@ module _ (bytes : List ℕ) (n : ℕ) (m : n ≤ length bytes) (e : front bytes 
       long l = sym (broken-fields (take n bytes) (omega (arith, length-take-le n bytes m)) (cut-opens l)) ∙ fields l
 
 -- no bytes after broken ones make a message of them
-pub never-mended : (bytes more : List ℕ) → broken bytes ≡ true → front (bytes ++ more) ≡ 0 → ⊥
+pub never-mended : NeverMended
 never-mended bytes more b e =
     never b
     (subst (λ l. broken l ≡ false) (take-append-seam bytes more)
@@ -82,7 +83,7 @@ opened-front bytes l o =
     (sym (whole-last bytes (omega arith) o) ∙ le-leb (9 + 5 * count-of bytes) (length bytes) (omega (arith, opens-parts bytes o .1)))
 
 -- so from there on what is not broken announces its length
-pub unbroken-announces : (bytes : List ℕ) → 29 ≤ length bytes → broken bytes ≡ false → front bytes ≡ 0
+pub unbroken-announces : UnbrokenAnnounces
 unbroken-announces bytes l b = ⊎-elim opened (λ o. never (sym (broken-closed bytes (omega arith) o)) b) (decided (opens bytes))
   where
     opened : opens bytes ≡ true → front bytes ≡ 0

@@ -1,4 +1,4 @@
--- One message running-at one state, by the monitor's step: the verdict says whether the state allows it, and the state where it leads.
+-- One message at one state, by the monitor's step: the verdict says whether the state allows it, and the state where it leads.
 -- Assumes nothing.
 use mathlib.Core.Path.{_≡_, refl, sym, ap, _∙_}
 use mathlib.Core.Bool.{true, cond}

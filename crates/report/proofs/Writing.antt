@@ -1,4 +1,4 @@
--- Pieces put-at one behind the other, and a text byte by byte; then numbers and labels as they are written.
+-- Pieces put one behind the other, and a text byte by byte; then numbers and labels as they are written.
 -- Assumes nothing.
 use mathlib.Core.Path.{_≡_, refl, sym, ap, ap₂, _∙_}
 use mathlib.Core.Bool.{Bool, true, false, cond}
@@ -27,7 +27,7 @@ module _ (at i : ℕ) (p b₀ b : List ℕ) (there : i ≡ at + length p) (fits 
   pub put-byte : (a : ℕ) → i < length b₀ → set b i a ≡ put-at at (p ++ (a ∷ [])) b₀
   put-byte a l = put-one b i a (omega (arith, ap length e, put-length at p b₀ (omega arith))) ∙ put-after (a ∷ [])
 
--- p is put-at into a buffer from a place on, and r is the place after it
+-- p is put into a buffer from a place on, and r is the place after it
 abbrev pub Laid : ℕ → List ℕ → List ℕ → List ℕ → ℕ → Type 0
 Laid at p b₀ b r = (r ≡ at + length p) × (b ≡ put-at at p b₀)
 
@@ -48,7 +48,7 @@ module _ (text : List ℕ) (k : ℕ) where
     pub rest-there : drop (k + 1) text ≡ rest
     rest-there = let l = more-there in rw add-one (cc (drop-cons text k 0 l))
 
-  -- k bytes of a text stand in the buffer, and the next is put-at behind them
+  -- k bytes of a text stand in the buffer, and the next is put behind them
   pub put-next : (at : ℕ) (b₀ b : List ℕ) (a : ℕ) → getD text k 0 ≡ a → at + length text ≤ length b₀ → k < length text
       → b ≡ put-at at (take k text) b₀
       → set b (at + k) a ≡ put-at at (take (k + 1) text) b₀

@@ -13,7 +13,7 @@ use Rattle.monitor.specs.declared.State.{State}
 use Rattle.monitor.specs.Step.{Outcome, refusing, blaming, forwarding, stepping}
 use Rattle.monitor.proofs.Asking.{Way, refuses, forwards, blames, way}
 use Rattle.sojimu.specs.Codes.{code-side, party-code, standing-code, standing-of, state-of, state-bytes, verdict-codes}
-use Rattle.sojimu.specs.Calls.{stepping-as, bytes-after, crossing, step-codes}
+use Rattle.sojimu.specs.Calls.{stepping-as, bytes-after, crossing, step-codes, CodesStep}
 
 party-same : (side : Party) → code-side (party-code side) ≡ some side
 party-same Device = refl
@@ -35,9 +35,9 @@ module _ (t : Words) (s : State) (side : Party) (message out : List ℕ) where
   bytes-same r (forwards e j h) = refl
   bytes-same r (blames e n f h) = refl
 
-  pub codes-step : step-codes t (state-bytes s) (party-code side) message out
-      ≡ (verdict-codes (stepping t s side message out .verdict), state-bytes (stepping t s side message out .state), stepping t s side message out .output)
-  unfolding step-codes crossing stepping-as
-  codes-step =
-      rw (party-same side, state-same s)
-      (ap (λ (b : List ℕ). (verdict-codes (stepping t s side message out .verdict), b, stepping t s side message out .output)) (bytes-same (stepping t s side message out) (way t s side message out)))
+pub codes-step : CodesStep
+unfolding step-codes crossing stepping-as
+codes-step t s side message out =
+    rw (party-same side, state-same s)
+    (ap (λ (b : List ℕ). (verdict-codes (stepping t s side message out .verdict), b, stepping t s side message out .output))
+    (bytes-same t s side message out (stepping t s side message out) (way t s side message out)))

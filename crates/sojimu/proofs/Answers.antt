@@ -17,6 +17,7 @@ use Rattle.fit.specs.Fit.{last-count, field-named}
 use Rattle.fit.specs.Answer.{Answer, refused, fits, fails, Failed, Answered}
 use Rattle.sojimu.specs.declared.fits.Fit.{Fit}
 use Rattle.sojimu.specs.Codes.{high-code, fit-codes}
+use Rattle.sojimu.specs.Calls.{CodesTell}
 
 few : (bytes : List ℕ) → well-formed bytes ≡ true → count-of bytes ≤ 4
 unfolding well-formed
@@ -46,15 +47,15 @@ module _ (d p : Words) (before : List ℕ) where
   same-high a b K L (some h) none x y e = absurd (omega (arith, e, high-few a K h x))
   same-high a b K L (some h) (some i) x y e = ap some e
 
-  pub codes-tell : (a b : List ℕ) (x y : Answer) → Answered d p before a x → Answered d p before b y → fit-codes x ≡ fit-codes y → x ≡ y
-  unfolding Answered
-  codes-tell a b (refused q) (refused q') u v e = ap refused (ap (λ (r : Fit). r .question) e)
-  codes-tell a b (fits c) (fits c') u v e = ap fits (ap (λ (r : Fit). r .count) e)
-  codes-tell a b (fails K h) (fails K' h') u v e =
-      ap₂ fails (ap (λ (r : Fit). r .count) e) (same-high a b K K' h h' u v (ap (λ (r : Fit). r .high) e))
-  codes-tell a b (refused q) (fits c) u v e = absurd (omega (arith, ap (λ (r : Fit). r .outcome) e))
-  codes-tell a b (refused q) (fails K h) u v e = absurd (omega (arith, ap (λ (r : Fit). r .outcome) e))
-  codes-tell a b (fits c) (refused q) u v e = absurd (omega (arith, ap (λ (r : Fit). r .outcome) e))
-  codes-tell a b (fits c) (fails K h) u v e = absurd (omega (arith, ap (λ (r : Fit). r .outcome) e))
-  codes-tell a b (fails K h) (refused q) u v e = absurd (omega (arith, ap (λ (r : Fit). r .outcome) e))
-  codes-tell a b (fails K h) (fits c) u v e = absurd (omega (arith, ap (λ (r : Fit). r .outcome) e))
+pub codes-tell : CodesTell
+unfolding Answered
+codes-tell d p before a b (refused q) (refused q') u v e = ap refused (ap (λ (r : Fit). r .question) e)
+codes-tell d p before a b (fits c) (fits c') u v e = ap fits (ap (λ (r : Fit). r .count) e)
+codes-tell d p before a b (fails K h) (fails K' h') u v e =
+    ap₂ fails (ap (λ (r : Fit). r .count) e) (same-high d p before a b K K' h h' u v (ap (λ (r : Fit). r .high) e))
+codes-tell d p before a b (refused q) (fits c) u v e = absurd (omega (arith, ap (λ (r : Fit). r .outcome) e))
+codes-tell d p before a b (refused q) (fails K h) u v e = absurd (omega (arith, ap (λ (r : Fit). r .outcome) e))
+codes-tell d p before a b (fits c) (refused q) u v e = absurd (omega (arith, ap (λ (r : Fit). r .outcome) e))
+codes-tell d p before a b (fits c) (fails K h) u v e = absurd (omega (arith, ap (λ (r : Fit). r .outcome) e))
+codes-tell d p before a b (fails K h) (refused q) u v e = absurd (omega (arith, ap (λ (r : Fit). r .outcome) e))
+codes-tell d p before a b (fails K h) (fits c) u v e = absurd (omega (arith, ap (λ (r : Fit). r .outcome) e))

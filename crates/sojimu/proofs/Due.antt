@@ -1,4 +1,4 @@
--- The side and the length that are told as due are the due part-told itself.
+-- The side and the length that are told as due are the due part itself.
 -- Assumes nothing.
 use mathlib.Core.Path.{_≡_, refl}
 use mathlib.Core.List.{List}
@@ -7,12 +7,12 @@ use Rattle.table.specs.View.{Words}
 use Rattle.table.specs.declared.Party.the-variants.{Device, Host}
 use Rattle.monitor.specs.declared.State.{State}
 use Rattle.monitor.specs.Due.{Awaited, refused, of-side, awaited, due-at, due}
-use Rattle.sojimu.specs.Calls.{due-codes, waiting, part-told}
+use Rattle.sojimu.specs.Calls.{due-codes, waiting, part-told, DuePart}
 use denote.Ref.{RefT, now}
 
-pub part-told : (t : Words) (s : State) (device host : RefT (List ℕ)) → part-told (due-codes (awaited t s) (now device) (now host)) device host ≡ due t s device host
+pub due-part : DuePart
 unfolding due due-at due-codes waiting part-told
-part-told t s device host = by (awaited t s)
+due-part t s device host = by (awaited t s)
   where
     by : (turn : Awaited) → part-told (due-codes turn (now device) (now host)) device host ≡ due-at turn device host
     by (of-side Device) = refl

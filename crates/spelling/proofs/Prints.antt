@@ -1,4 +1,4 @@
--- What holds of the sign-tokens of the grammar and of a type's names, labels and numbers holds of the tokens that it is written with.
+-- What holds of the signs of the grammar and of a type's names, labels and numbers holds of the tokens that it is written with.
 -- Assumes nothing.
 use mathlib.Core.Path.{_≡_, refl}
 use mathlib.Core.Bool.{true}
@@ -11,7 +11,7 @@ use Rattle.spelling.specs.Spelling.{sign-tokens, dot-tokens, word-tokens
 use Rattle.spelling.specs.Speller.{OfFields, Of, OfBr}
 use Rattle.spelling.proofs.Classes.{kinds}
 
--- the sign-tokens, dot-tokens and word-tokens of the grammar
+-- the signs, dots and words of the grammar
 abbrev pub fixed : List ℕ
 fixed = kinds (sign-tokens ++ dot-tokens ++ word-tokens)
 

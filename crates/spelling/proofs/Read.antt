@@ -8,8 +8,8 @@ use Rattle.text.specs.Token.{one-of}
 use Rattle.text.specs.Grammar.{Ty, Tok, sign, print-text}
 use Rattle.text.proofs.Toks.{tag, sign-in}
 use Rattle.text.proofs.Unique.{print-once}
-use Rattle.text.proofs.Exactly.{read-exactly, read-seen}
-use Rattle.spelling.specs.Theorems.{WellFormed, SpeltOnce, WritesSpelt, TypeOnce, ReadExactly, ReadSeen}
+use Rattle.text.proofs.Exactly.{read-exactly, read-seen, read-sound}
+use Rattle.spelling.specs.Theorems.{WellFormed, SpeltOnce, WritesSpelt, TypeOnce, ReadExactly, ReadSeen, ReadSound}
 use Rattle.spelling.proofs.Scan.{spelt-scanned}
 use Rattle.spelling.proofs.Prints.{fixed, print-holds, of-all}
 
@@ -50,3 +50,6 @@ read-seen-spelt s T = (
   (λ h. let a = read-seen s T .0 h in let b = writes-spelt s (a .0) .0 (a .1) in (a .0, b .0, b .1, a .2, a .3)),
   (λ h. read-seen s T .1 (h .0, writes-spelt s (h .0) .1 (h .1, h .2), h .3, h .4)),
 )
+
+pub table-sound : ReadSound
+table-sound s h = read-sound s h

@@ -44,7 +44,7 @@ zeros-packed (suc n) (b ∷ w) e =
     let p = both (eqb b 0) (every (λ x. eqb x 0) w) e in
     rw (eqb-true b 0 (p .0), zeros-packed n w (p .1)) (omega arith)
 
--- the rest of a legal label: a letter or a-digit and a rest, or zeros
+-- the rest of a legal label: a letter or digit and a rest, or zeros
 abbrev Rest : ℕ → List ℕ → Type 0
 Rest c r = ((eqb c 0 ≡ false) × (letter-or-digit c ≡ true) × (label-rest r ≡ true)) ⊎ ((eqb c 0 ≡ true) × Zeros (c ∷ r))
 

@@ -17,7 +17,7 @@ name x = word-of (ascii x)
 abbrev plus : ℕ → Signed
 plus n = record { minus = false; value = n }
 
--- document 01's P-type, as a type
+-- document 01's P, as a type
 abbrev pub P-type : Ty
 P-type =
     loop (name "X")

@@ -60,7 +60,7 @@ abbrev pub Digits : List ℕ → Type 0
 Digits [] = ⊥
 Digits (b ∷ w) = (every a-digit (b ∷ w) ≡ true) × (b ≡ 48 → ⊥)
 
--- a token, its bytes, and which bytes would go on with it: names and word-tokens (letters and digits), digits and dot-tokens take the longest run
+-- a token, its bytes, and which bytes would go on with it: names and words (letters and digits), digits and dots take the longest run
 pub data Spells : Tok → List ℕ → (ℕ → Bool) → Type 0 where
   a-sign : {k : ℕ} {w : List ℕ} → Listed sign-tokens k w → Spells (sign k) w (λ b. false)
   a-dot : {k : ℕ} {w : List ℕ} → Listed dot-tokens k w → Spells (sign k) w dot

@@ -1,14 +1,14 @@
 -- The theorems on texts, each as a type that proofs/ has a value of. The scanner is named in SpeltScanned and WritesSpelt only.
 -- Assumes nothing.
 use mathlib.Core.Path.{_≡_}
-use mathlib.Core.Bool.{cond}
+use mathlib.Core.Bool.{true, cond}
 use mathlib.Core.Logic.{_↔_}
 use mathlib.Core.List.{List, [], _∷_, map}
 use Prim.Native.Nat.{ℕ, suc, _≤_}
 use lib.Dec.{leb}
 use lib.ListN.{length}
 use Rattle.table.specs.Ascii.{letters, digits}
-use Rattle.table.specs.View.{label-of, view}
+use Rattle.table.specs.View.{label-of, view, sound-of}
 use Rattle.text.specs.Token.{tokens, word-of}
 use Rattle.text.specs.Number.{value-of}
 use Rattle.text.specs.Grammar.{text-limit, Ty, Tok, sign, print-text, tok-of, Writes, table-of, Legal}
@@ -67,6 +67,10 @@ ReadPlaced =
     (s : List ℕ) (r : Reading)
     → (reads s ≡ r)
     ↔ ((ks : List Token) × Placed s 0 ks × (written (cond (leb (length s) text-limit) (run-tokens s start ks) (denied 1 0)) ≡ r))
+
+-- A table that is read is sound (question 9).
+abbrev pub ReadSound : Type 0
+ReadSound = (s : List ℕ) → reads s .question ≡ 0 → sound-of (reads s .table) ≡ true
 
 -- ---- the speller
 

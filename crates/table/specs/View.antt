@@ -2,6 +2,7 @@
 -- The layout is told at the constants of src/lib.rt: where each run of words begins is said there, and here in the functions `..At`,
 -- and nowhere else. Only the first `states` and `branches` entries are seen, of branch k the first `fields` at 4 * k.
 -- Assumes nothing.
+use mathlib.Core.Path.{_≡_}
 use Prim.Native.Nat.{ℕ, zero, suc, _+_, _*_, _/_, _%_}
 use mathlib.Core.Bool.{Bool, true, false, _&&_}
 use mathlib.Core.List.{List, [], _∷_}
@@ -134,3 +135,13 @@ dual-answer t false = record { question = 9; table = empty-table }
 
 unfoldable pub dual-of : Words → Turned
 dual-of t = dual-answer t (sound-of t)
+
+-- ---- what is proved of it
+
+-- of a sound table the call gives document 01's dual
+abbrev pub DualSeen : Type 0
+DualSeen = (t : Words) → sound-of t ≡ true → view (dual-of t .table) ≡ T.dual (view t)
+
+-- the dual of the dual is the table itself
+abbrev pub DualTwice : Type 0
+DualTwice = (t : Words) → sound-of t ≡ true → dual-of (dual-of t .table) ≡ record { question = 0; table = t }
