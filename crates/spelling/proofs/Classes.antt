@@ -12,13 +12,14 @@ use Rattle.table.specs.Ascii.{ascii}
 use Rattle.table.specs.Lists.{every, same, matched}
 use Rattle.table.specs.Table.{upper, letter-or-digit}
 use Rattle.table.proofs.Lists.{both, never}
-use Rattle.text.specs.Token.{one-of, is-space, class-of}
+use Rattle.text.specs.Token.{one-of}
+use Rattle.text.specs.Scanner.{is-space, class-of}
 use Rattle.text.specs.declared.token.Class.{Class}
 use Rattle.text.specs.declared.token.Class.the-variants.{Space, Lower, Upper, Digit, Dot, Minus, Sign, Other}
 use Rattle.text.proofs.Bytes.{code, is, ranged, class-test, upper-word, lower-word}
 use Rattle.spelling.specs.Spelling.{a-digit, blank, sign-tokens, Listed}
 use Rattle.spelling.specs.Speller.{beside}
-use Rattle.text.specs.Token as S
+use Rattle.text.specs.Scanner as S
 
 -- ---- from a byte to its class
 

@@ -5,7 +5,8 @@ use Prim.Native.Nat.{ℕ}
 use native.Mathlib.Omega.{arith}
 use Rattle.table.specs.Lists.{same, matched}
 use Rattle.table.specs.Table.{letter-or-digit}
-use Rattle.text.specs.Token.{class-of, run-of, run-end, word-kind, word-token, name-token, number-kind, number-token, dots-token, begin-at, token-at, tokens-from, tokens, packed, word-of}
+use Rattle.text.specs.Token.{packed, word-of}
+use Rattle.text.specs.Scanner.{class-of, run-of, run-end, word-kind, word-token, name-token, number-kind, number-token, dots-token, begin-at, token-at, tokens-from, tokens}
 use Rattle.text.specs.Number.{signed-of, value-of}
 use Rattle.text.specs.Grammar.{stop, Tok, sign, print-text, tok-of}
 use Rattle.text.proofs.Toks.{tag, sign-in}

@@ -13,7 +13,8 @@ use borrow.Author.Tests.{ne-eqb, le-leb, lt-leb, leb-true}
 use Rattle.table.specs.Lists.{every, same, matched}
 use Rattle.table.specs.Table.{upper, letter-or-digit}
 use Rattle.table.proofs.Lists.{both, join, never}
-use Rattle.text.specs.Token.{one-of, is-space, class-of, run-of, run-end, part, token, word-kind, word-token, name-token, number-kind, number-token, dots-token, begin-at, token-at, word-of}
+use Rattle.text.specs.Token.{one-of, part, token, word-of}
+use Rattle.text.specs.Scanner.{is-space, class-of, run-of, run-end, word-kind, word-token, name-token, number-kind, number-token, dots-token, begin-at, token-at}
 use Rattle.text.specs.Number.{value-of, signed-of}
 use Rattle.text.specs.Grammar.{Tok, word, number, sign, tok-of}
 use Rattle.text.specs.declared.token.Class.{Class}

@@ -11,7 +11,8 @@ use lib.ListN.{length, drop, length-drop, length-append}
 use borrow.Author.Tests.{eq-eqb, ne-eqb, eqb-true, eqb-false}
 use Rattle.table.specs.Lists.{first-no}
 use Rattle.text.proofs.Asked.{asked}
-use Rattle.text.specs.Token.{class-of, token, word-token, name-token, number-token, dots-token, begin-at, token-at, tokens-from, tokens}
+use Rattle.text.specs.Token.{token}
+use Rattle.text.specs.Scanner.{class-of, word-token, name-token, number-token, dots-token, begin-at, token-at, tokens-from, tokens}
 use Rattle.text.specs.Building.{Built, denied}
 use Rattle.text.specs.Filled.{written}
 use Rattle.text.specs.Reading.{State, start, token-formed, taken, run-tokens, built, reads, questions}

@@ -12,7 +12,8 @@ use borrow.Author.Tests.{ne-eqb, eqb-true}
 use Rattle.table.specs.Lists.{every}
 use Rattle.table.specs.Table.{upper}
 use Rattle.table.proofs.Lists.{never}
-use Rattle.text.specs.Token.{token, tokens}
+use Rattle.text.specs.Token.{token}
+use Rattle.text.specs.Scanner.{tokens}
 use Rattle.text.specs.Building.{denied}
 use Rattle.text.specs.Filled.{Reading, refused, written}
 use Rattle.text.specs.Reading.{start, run-tokens, built, reads}

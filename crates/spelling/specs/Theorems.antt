@@ -9,7 +9,8 @@ use lib.Dec.{leb}
 use lib.ListN.{length}
 use Rattle.table.specs.Ascii.{letters, digits}
 use Rattle.table.specs.View.{label-of, view, sound-of}
-use Rattle.text.specs.Token.{tokens, word-of}
+use Rattle.text.specs.Token.{word-of}
+use Rattle.text.specs.Scanner.{tokens}
 use Rattle.text.specs.Number.{value-of}
 use Rattle.text.specs.Grammar.{text-limit, Ty, Tok, sign, print-text, tok-of, Writes, table-of, Legal}
 use Rattle.text.specs.Building.{denied}

@@ -9,7 +9,8 @@ use lib.Dec.{eqb, ltb}
 use lib.ListN.{length, getD}
 use borrow.Author.Tests.{eq-eqb, eqb-true, eqb-false, lt-leb, ltb-true, ltb-false, lt-ltb}
 use Rattle.table.proofs.Lists.{both, never}
-use Rattle.text.specs.Token.{one-of, signs, is-space, is-dot, class-of, run-end, token, dots-token, begin-at, token-at}
+use Rattle.text.specs.Token.{one-of, token}
+use Rattle.text.specs.Scanner.{signs, is-space, is-dot, class-of, run-end, dots-token, begin-at, token-at}
 use Rattle.text.specs.Recursive.{step, unexpected-at, passed, expect-at, is-at, next-token, next-of, next-at}
 use Rattle.text.specs.declared.token.Token.{Token}
 use Rattle.text.specs.declared.step.Next.{Next}

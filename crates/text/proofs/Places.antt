@@ -11,7 +11,7 @@ use borrow.Author.Tests.{leb-true}
 use Rattle.table.specs.Lists.{first-no}
 use Rattle.text.proofs.Asked.{asked}
 use Rattle.text.specs.Building.{denied}
-use Rattle.text.specs.Token.{token-at, tokens-from, tokens}
+use Rattle.text.specs.Scanner.{token-at, tokens-from, tokens}
 use Rattle.text.specs.Reading.{State, questions, taken, run-tokens, start, built, reads}
 use Rattle.text.specs.declared.token.Token.{Token}
 use Rattle.text.specs.Filled.{Reading}

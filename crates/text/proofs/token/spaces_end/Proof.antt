@@ -5,7 +5,7 @@ use native.Mathlib.Omega.{arith}
 use borrow.Author.Needs.{needs}
 use borrow.Author.Tests.{not-true, not-false}
 use lib.ListN.{length}
-use Rattle.text.specs.Token.{is-space, run-end}
+use Rattle.text.specs.Scanner.{is-space, run-end}
 use Rattle.text.proofs.Runs.{run-on, run-off, run-out}
 use Rattle.text.proofs.token.spaces_end.Statement.{statement}
 use Rattle.text.proofs.token.spaces_end.Tie as tie
