@@ -4,9 +4,13 @@ use mathlib.Core.Path.{_≡_, refl, sym, ap, subst, _∙_}
 use mathlib.Core.Logic.{_↔_}
 use mathlib.Core.List.{List}
 use mathlib.Core.Option.{Option, none, some}
-use Prim.Native.Nat.{ℕ}
+use Prim.Native.Nat.{ℕ, _*_}
+use lib.ListN.{length}
+use borrow.Author.Tests.{le-leb}
 use Rattle.table.specs.Table.{Table}
-use Rattle.table.specs.View.{view}
+use Rattle.table.specs.Lists.{first-no}
+use Rattle.table.specs.View.{states-of, view}
+use Rattle.table.proofs.Lists.{never}
 use Rattle.message.specs.Message.{Message}
 use Rattle.message.specs.Rules.{Rules, table-rules}
 use Rattle.text.specs.Grammar.{Ty, Writes}
@@ -21,10 +25,12 @@ use Rattle.types.proofs.Agree.{Stands-for, Rules-alike}
 use Rattle.types.proofs.Texts.{text-rules}
 use Rattle.types.proofs.Headline.{type-demand}
 use Rattle.fit.specs.Machine.{Safe, Unsafe}
+use Rattle.fit.specs.Answer.{Answer, refused, fits, fails, fit-questions, Demand}
+use Rattle.fit.proofs.Demand.{demand-three}
 use Rattle.together.proofs.Unblamed.{fits-unblamed}
 use Rattle.report.specs.Report.{Reported}
 use Rattle.report.proofs.Exactly.{reports-fit, reports-no-fit}
-use Rattle.demands.specs.Demands.{TextOf, FitOfTexts, ReadOfTexts, OneType, DemandTwoOfTexts, DemandThreeOfTexts, UnblamedOfTexts}
+use Rattle.demands.specs.Demands.{TextOf, ReadOfTexts, OneType, DemandTwoOfTexts, DemandThreeOfTexts, ReportsOfTexts, UnblamedOfTexts}
 use Rattle.demands.proofs.Likeness.{alike-itself, safe-like, unsafe-like}
 
 -- ---- one text
@@ -77,15 +83,45 @@ module _ (protocol device : List ℕ) (p d : Ty) (x : TextOf protocol p) (y : Te
       safe-like (_≡_ {A = Ty}) (Stands-for U) (type-rules d) (type-rules d) (type-rules p) (table-rules U) (alike-itself (type-rules d))
       (goes-along protocol p x)
 
+safe-unsafe : {D P X : Type 0} (d : Rules D) (p : Rules P) → Safe d p → Unsafe d p → X
+unfolding Safe Unsafe
+safe-unsafe d p f u = never (u .2) (f (u .0) (u .1))
+
 pub demand-three-of-texts : DemandThreeOfTexts
-demand-three-of-texts protocol device p d x y report r =
+unfolding fit-questions first-no
+demand-three-of-texts protocol device p d x y before after room r answered =
+    let a = safe protocol device p d x y in
+    let b = unsafe protocol device p d x y in
+    let q = demand-three (reads device .table) (reads protocol .table) before after r answered in
+    record {
+      passes = (λ h. a .1 (q .passes (h .0) .0 (h .1) .1), λ h. either q (a .0 h));
+      fails-exactly = (λ h. b .1 (q .fails-exactly .0 h .1), λ h. q .fails-exactly .1 (yes, b .0 h));
+    }
+  where
+    yes : first-no (fit-questions (reads device .table) (reads protocol .table) (length before)) ≡ 0
+    yes =
+        rw (read-sound device (is-read device d y), read-sound protocol (is-read protocol p x),
+        le-leb (states-of (reads device .table) * states-of (reads protocol .table)) (length before) room)
+
+    -- a safe pair is not refused, and does not fail
+    either : Demand (reads device .table) (reads protocol .table) before after r
+        → Safe (table-rules (view (reads device .table))) (table-rules (view (reads protocol .table))) → (c : ℕ) × (r ≡ fits c)
+    either q h = go r refl
+      where
+        go : (a : Answer) → r ≡ a → (c : ℕ) × (r ≡ fits c)
+        go (fits c) e = (c, e)
+        go (refused n) e = let z = q .refuses n .0 e in absurd (z .1 (sym (z .0) ∙ yes))
+        go (fails K f) e = let z = q .fails-exactly .0 (K, f, e) .1 in safe-unsafe _ _ h z
+
+pub reports-of-texts : ReportsOfTexts
+reports-of-texts protocol device p d x y report r =
     let a = safe protocol device p d x y in
     let b = unsafe protocol device p d x y in
     let f = reports-fit protocol device report r (is-read protocol p x) (is-read device d y) in
     let g = reports-no-fit protocol device report r (is-read protocol p x) (is-read device d y) in
     record {
-      passes = (λ h. a .1 (f .0 h), λ h. f .1 (a .0 h));
-      fails = (λ h. b .1 (g .0 h), λ h. g .1 (b .0 h));
+      says-fit = (λ h. a .1 (f .0 h), λ h. f .1 (a .0 h));
+      says-no-fit = (λ h. b .1 (g .0 h), λ h. g .1 (b .0 h));
     }
 
 pub unblamed-of-texts : UnblamedOfTexts

@@ -4,15 +4,16 @@ use mathlib.Core.Path.{_≡_}
 use mathlib.Core.Logic.{_↔_}
 use mathlib.Core.List.{List}
 use mathlib.Core.Option.{Option}
-use Prim.Native.Nat.{ℕ, _≤_}
+use Prim.Native.Nat.{ℕ, _*_, _≤_}
 use lib.ListN.{length}
-use Rattle.table.specs.View.{view}
+use Rattle.table.specs.View.{states-of, view}
 use Rattle.text.specs.Grammar.{text-limit, Ty, print-text, Legal}
 use Rattle.text.specs.Reading.{reads}
 use Rattle.spelling.specs.Spelling.{Spelt}
 use Rattle.types.specs.Types.{type-rules}
 use Rattle.monitor.specs.Conversation.{Sent, Watched}
 use Rattle.fit.specs.Machine.{Safe, Unsafe}
+use Rattle.fit.specs.Answer.{Answer, fits, fails, Answered}
 use Rattle.together.specs.Unblamed.{Keeps, Unblamed}
 use Rattle.report.specs.Report.{fit, no-fit, Reported}
 
@@ -33,20 +34,32 @@ OneType = (s : List ℕ) (t u : Ty) → TextOf s t → TextOf s u → t ≡ u
 abbrev pub DemandTwoOfTexts : Type 0
 DemandTwoOfTexts = (s : List ℕ) (t : Ty) → TextOf s t → (sent : List Sent) → Watched (type-rules t) (reads s .table) sent
 
--- demand 3: the report says `fit` exactly when no list of moves on the two types' machine ends with the device blamed or the machine
--- jammed, and `no fit` exactly when some list does
-pub record FitOfTexts (protocol device : List ℕ) (p d : Ty) (report : List ℕ) : Type 0 where
-  pub passes : ((c : ℕ) × (report ≡ fit c)) ↔ Safe (type-rules d) (type-rules p)
-  pub fails :
-      ((ks : List ℕ) × (h : Option ℕ) × (report ≡ no-fit (view (reads device .table)) (view (reads protocol .table)) ks h))
-      ↔ Unsafe (type-rules d) (type-rules p)
+-- demand 3: with room for the product the fit check passes exactly when no list of moves on the two types' machine ends with the device
+-- blamed or the machine jammed, and fails exactly when some list does
+pub record CheckOfTexts (p d : Ty) (r : Answer) : Type 0 where
+  pub passes : ((c : ℕ) × (r ≡ fits c)) ↔ Safe (type-rules d) (type-rules p)
+  pub fails-exactly : ((K : ℕ) × (h : Option ℕ) × (r ≡ fails K h)) ↔ Unsafe (type-rules d) (type-rules p)
 
 abbrev pub DemandThreeOfTexts : Type 0
 DemandThreeOfTexts =
-    (protocol device : List ℕ) (p d : Ty) → TextOf protocol p → TextOf device d
-    → (report : List ℕ) → Reported protocol device report → FitOfTexts protocol device p d report
+    (protocol device : List ℕ) (p d : Ty) → TextOf protocol p → TextOf device d → (before after : List ℕ)
+    → states-of (reads device .table) * states-of (reads protocol .table) ≤ length before
+    → (r : Answer) → Answered (reads device .table) (reads protocol .table) before after r → CheckOfTexts p d r
 
--- a device that fits is never blamed, as long as it says what its description says, and takes every message of the host's that is forwarded
+-- and the report says `fit` or `no fit` accordingly
+pub record ReportOfTexts (protocol device : List ℕ) (p d : Ty) (report : List ℕ) : Type 0 where
+  pub says-fit : ((c : ℕ) × (report ≡ fit c)) ↔ Safe (type-rules d) (type-rules p)
+  pub says-no-fit :
+      ((ks : List ℕ) × (h : Option ℕ) × (report ≡ no-fit (view (reads device .table)) (view (reads protocol .table)) ks h))
+      ↔ Unsafe (type-rules d) (type-rules p)
+
+abbrev pub ReportsOfTexts : Type 0
+ReportsOfTexts =
+    (protocol device : List ℕ) (p d : Ty) → TextOf protocol p → TextOf device d
+    → (report : List ℕ) → Reported protocol device report → ReportOfTexts protocol device p d report
+
+-- a device that fits and says only what its description says is never blamed; and every message of the host's that is forwarded is one
+-- that the description takes there
 abbrev pub UnblamedOfTexts : Type 0
 UnblamedOfTexts =
     (protocol device : List ℕ) (p d : Ty) → TextOf protocol p → TextOf device d → Safe (type-rules d) (type-rules p)
