@@ -100,8 +100,11 @@ demand-three-of-texts protocol device p d x y before after room r answered =
   where
     yes : first-no (fit-questions (reads device .table) (reads protocol .table) (length before)) ≡ 0
     yes =
-        rw (read-sound device (is-read device d y), read-sound protocol (is-read protocol p x),
-        le-leb (states-of (reads device .table) * states-of (reads protocol .table)) (length before) room)
+        rw (
+          read-sound device (is-read device d y),
+          read-sound protocol (is-read protocol p x),
+          le-leb (states-of (reads device .table) * states-of (reads protocol .table)) (length before) room,
+        )
 
     -- a safe pair is not refused, and does not fail
     either : Demand (reads device .table) (reads protocol .table) before after r

@@ -1,14 +1,18 @@
 -- The report from its parts: a refused text; the fit check's answers over two sound tables; and the lent buffer.
 -- Assumes nothing.
 use mathlib.Core.Path.{_≡_, refl, sym, ap, ap₂, _∙_, subst, subst₂}
-use mathlib.Core.Bool.{true}
-use mathlib.Core.List.{List, _++_}
-use Prim.Native.Nat.{ℕ, _+_, _*_, _≤_, _<_}
+use mathlib.Core.Bool.{true, false}
+use mathlib.Core.Logic.{⊎-elim}
+use mathlib.Core.List.{List, [], _∷_, _++_}
+use Prim.Native.Nat.{ℕ, suc, _+_, _*_, _≤_, _<_}
 use native.Mathlib.Omega.{arith}
 use lib.ListN.{length, take, drop, length-append, length-drop}
 use lib.Seq.{take-at, length-take-le, take-length, take-append-seam}
-use borrow.Author.Tests.{le-leb, lt-leb}
+use lib.Dec.{eqb}
+use borrow.Author.Tests.{le-leb, lt-leb, eqb-true, eqb-false}
 use Rattle.table.specs.Lists.{first-no}
+use Rattle.table.specs.Table.{Table}
+use Rattle.table.proofs.Lists.{decided}
 use Rattle.table.specs.View.{Words, states-of, view, sound-of}
 use Rattle.table.proofs.Facts.{sorts-of}
 use Rattle.message.specs.Make.{opening, high-of}
@@ -25,7 +29,7 @@ use Rattle.fit.specs.Answer.{Answered, answer-of, fit-questions, Failed, Fewest
 use Rattle.fit.specs.declared.Fitting.{Fitting}
 use Rattle.fit.proofs.Answers.{room-most}
 use Rattle.table.specs.Ascii.{ascii, decimal}
-use Rattle.report.specs.Report.{line, fit, refused-line, no-fit, Compared, says-fit, says-no-fit, Written}
+use Rattle.report.specs.Report.{line, fit, refused-line, no-fit, Compared, says-fit, says-no-fit, Reported, Written}
 use Rattle.report.specs.Playing.{rules, lines-from, ListShows, Opened, Composed}
 use Rattle.fit.specs.declared.Fitting.the-variants as F
 
@@ -177,6 +181,33 @@ module _ (protocol device before : List ℕ) {after : List ℕ} {x : ℕ} where
         opened = w .opened ∙ put-opening (w .text) before;
       }
 
+-- ---- no report is empty
+
+line-some : (bytes : List ℕ) → line bytes ≡ [] → ⊥
+unfolding line
+line-some bytes e = let z : length (bytes ++ (10 ∷ [])) ≡ 0 = ap length e in omega (arith, z, length-append bytes (10 ∷ []))
+
+line-long : (bytes : List ℕ) → length (line bytes) ≡ suc (length bytes)
+unfolding line
+line-long bytes = omega (arith, length-append bytes (10 ∷ []))
+
+compared-some : (d p : Table) (text : List ℕ) → Compared d p text → text ≡ [] → ⊥
+unfolding fit no-fit
+compared-some d p text (says-fit c f n) e = line-some _ e
+compared-some d p text (says-no-fit ks h f l m) e =
+    let z = ap length e in
+    omega (arith, z, length-append (line (ascii "no fit " ++ decimal (length ks))) _, line-long (ascii "no fit " ++ decimal (length ks)))
+
+reported-some : (protocol device text : List ℕ) → Reported protocol device text → text ≡ [] → ⊥
+unfolding refused-line
+reported-some protocol device text r e =
+    ⊎-elim (λ (p : eqb (reads protocol .question) 0 ≡ true).
+    ⊎-elim (λ (d : eqb (reads device .question) 0 ≡ true). compared-some _ _ text (r .compared (eqb-true _ _ p) (eqb-true _ _ d)) e)
+    (λ (d : eqb (reads device .question) 0 ≡ false). line-some _ (sym (r .device-refused (eqb-true _ _ p) (eqb-false _ _ d)) ∙ e))
+    (decided (eqb (reads device .question) 0)))
+    (λ (p : eqb (reads protocol .question) 0 ≡ false). line-some _ (sym (r .protocol-refused (eqb-false _ _ p)) ∙ e))
+    (decided (eqb (reads protocol .question) 0))
+
 -- ---- the lent buffer
 
 module _ (protocol device buffer : List ℕ) {zeros after : List ℕ} {x : ℕ} (c : Composed protocol device zeros after x)
@@ -193,7 +224,7 @@ module _ (protocol device buffer : List ℕ) {zeros after : List ℕ} {x : ℕ} 
   pub written-not : length buffer < x → Written protocol device buffer buffer 0
   written-not short =
       let no = lt-leb (length (c .text)) (length buffer) (omega (arith, c .long, short)) in
-      record { text = c .text; reported = c .reported; most = most; answer = rw no refl; buffer = rw no refl }
+      record { text = c .text; reported = c .reported; some = reported-some _ _ _ (c .reported); most = most; answer = rw no refl; buffer = rw no refl }
 
   -- the buffer holds it
   pub copied-fits : x ≤ length buffer → length (take x after) ≤ length buffer
@@ -209,6 +240,7 @@ module _ (protocol device buffer : List ℕ) {zeros after : List ℕ} {x : ℕ} 
       record {
         text = c .text;
         reported = c .reported;
+        some = reported-some _ _ _ (c .reported);
         most = most;
         answer = rw yes (c .long);
         buffer =

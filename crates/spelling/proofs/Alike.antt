@@ -159,24 +159,25 @@ module _ (s u : List ℕ) (k j : Token) (same : tok-of s k ≡ tok-of u j) where
 
 module _ (s : List ℕ) where
   -- it has the place p, and whoever begins with the tokens up to it gets a no
-  pub record Stop (st : State) (ks : List Token) (p : ℕ) : Type 0 where
+  pub record Stop (st : State) (ks : List Token) (q p : ℕ) : Type 0 where
     pub before : List Token
     pub here : Token
     pub rest : List Token
     pub split : ks ≡ before ++ (here ∷ rest)
     pub place : here .start ≡ p
+    pub why : (z : State) × (asked s z here ≡ q)
     pub none : (u : List ℕ) (js : List Token) (ts : List Tok) → map (tok-of u) js ≡ map (tok-of s) before ++ (tok-of s here ∷ ts) → run-tokens u st js .question ≡ 0 → ⊥
 
-  stop-here : (st : State) (k : Token) (ks : List Token) → (asked s st k ≡ 0 → ⊥) → Stop st (k ∷ ks) (k .start)
-  stop-here st k ks h = record { before = []; here = k; rest = ks; split = refl; place = refl; none = none }
+  stop-here : (st : State) (k : Token) (ks : List Token) → (asked s st k ≡ 0 → ⊥) → Stop st (k ∷ ks) (asked s st k) (k .start)
+  stop-here st k ks h = record { before = []; here = k; rest = ks; split = refl; place = refl; why = (st, refl); none = none }
     where
       none : (u : List ℕ) (js : List Token) (ts : List Tok) → map (tok-of u) js ≡ tok-of s k ∷ ts → run-tokens u st js .question ≡ 0 → ⊥
       none u [] ts e z = never-empty e
       none u (j ∷ js) ts e z = h (asked-same s u k j (sym (first-is e)) st ∙ passed u st j js z .0)
 
-  stop-later : (st : State) (k : Token) (ks : List Token) (p : ℕ) → asked s st k ≡ 0 → Stop (taken s st k) ks p → Stop st (k ∷ ks) p
-  stop-later st k ks p h r =
-      record { before = k ∷ r .before; here = r .here; rest = r .rest; split = ap (λ (l : List Token). k ∷ l) (r .split); place = r .place; none = none }
+  stop-later : (st : State) (k : Token) (ks : List Token) (q p : ℕ) → asked s st k ≡ 0 → Stop (taken s st k) ks q p → Stop st (k ∷ ks) q p
+  stop-later st k ks q p h r =
+      record { before = k ∷ r .before; here = r .here; rest = r .rest; split = ap (λ (l : List Token). k ∷ l) (r .split); place = r .place; why = r .why; none = none }
     where
       none : (u : List ℕ) (js : List Token) (ts : List Tok) → map (tok-of u) js ≡ tok-of s k ∷ (map (tok-of s) (r .before) ++ (tok-of s (r .here) ∷ ts))
           → run-tokens u st js .question ≡ 0 → ⊥
@@ -185,13 +186,14 @@ module _ (s : List ℕ) where
           let t = taken-same s u k j (sym (first-is e)) st (asked-none s k st h) in
           r .none u js ts (rest-is e) (ap (λ (x : State). run-tokens u x js .question) t ∙ passed u st j js z .1)
 
-  pub stop : (ks : List Token) (st : State) → (run-tokens s st ks .question ≡ 0 → ⊥) → Stop st ks (run-tokens s st ks .at)
+  pub stop : (ks : List Token) (st : State) → (run-tokens s st ks .question ≡ 0 → ⊥) → Stop st ks (run-tokens s st ks .question) (run-tokens s st ks .at)
   unfolding run-tokens denied
   stop [] st h = absurd (h refl)
   stop (k ∷ ks) st h = go (eqb (asked s st k) 0) refl h (stop ks (taken s st k))
     where
       go : (b : Bool) → eqb (asked s st k) 0 ≡ b → (cond b (run-tokens s (taken s st k) ks) (denied (asked s st k) (k .start)) .question ≡ 0 → ⊥)
-          → ((run-tokens s (taken s st k) ks .question ≡ 0 → ⊥) → Stop (taken s st k) ks (run-tokens s (taken s st k) ks .at))
-          → Stop st (k ∷ ks) (cond b (run-tokens s (taken s st k) ks) (denied (asked s st k) (k .start)) .at)
-      go true e h later = stop-later st k ks _ (eqb-true _ _ e) (later h)
+          → ((run-tokens s (taken s st k) ks .question ≡ 0 → ⊥) → Stop (taken s st k) ks (run-tokens s (taken s st k) ks .question) (run-tokens s (taken s st k) ks .at))
+          → Stop st (k ∷ ks) (cond b (run-tokens s (taken s st k) ks) (denied (asked s st k) (k .start)) .question)
+          (cond b (run-tokens s (taken s st k) ks) (denied (asked s st k) (k .start)) .at)
+      go true e h later = stop-later st k ks _ _ (eqb-true _ _ e) (later h)
       go false e h later = stop-here st k ks (eqb-false _ _ e)

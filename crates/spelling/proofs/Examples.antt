@@ -32,6 +32,7 @@ examples = record {
   two-tokens = spelt-scanned _ _ .1 (refl, ((λ e. omega (arith, ap tag e)), ((λ e. omega (arith, ap tag e)), ((λ e. omega (arith, ap sign-in e)), tt))));
   eight = spelt-scanned _ _ .1 (refl, ((λ e. omega (arith, ap tag e)), ((λ e. omega (arith, ap sign-in e)), tt)));
   nine = λ ts. nothing-spelt _ _ ts refl;
+  negative = spelt-scanned _ _ .1 (refl, ((λ e. omega (arith, ap tag e)), ((λ e. omega (arith, ap sign-in e)), tt)));
   minus-zero = λ ts. nothing-spelt _ _ ts refl;
   leading-zero = λ ts. nothing-spelt _ _ ts refl;
   three-dots = λ ts. nothing-spelt _ _ ts refl;

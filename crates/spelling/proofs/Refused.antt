@@ -2,21 +2,22 @@
 -- they stand; by 3, from the grammar, with a text written by the speller.
 -- Assumes nothing.
 use mathlib.Core.Path.{_≡_, refl, sym, subst, ap, ap₂, _∙_}
-use mathlib.Core.Bool.{cond, Bool, true, false}
+use mathlib.Core.Bool.{cond, Bool, true, false, not}
 use mathlib.Core.List.{List, [], _∷_, _++_, map}
 use Prim.Native.Nat.{ℕ}
 use native.Mathlib.Omega.{arith}
 use lib.Dec.{eqb, leb}
 use lib.ListN.{length, drop}
 use borrow.Author.Tests.{ne-eqb, eqb-true}
-use Rattle.table.specs.Lists.{every}
+use Rattle.table.specs.Lists.{every, first-no}
 use Rattle.table.specs.Table.{upper}
 use Rattle.table.proofs.Lists.{never}
 use Rattle.text.specs.Token.{token}
 use Rattle.text.specs.Scanner.{tokens}
 use Rattle.text.specs.Building.{denied}
 use Rattle.text.specs.Filled.{Reading, refused, written}
-use Rattle.text.specs.Reading.{start, run-tokens, built, reads}
+use Rattle.text.specs.Reading.{State, token-formed, allowed, name-bound, guarded, ranged, new-label, within, questions, start, run-tokens, built, reads}
+use Rattle.text.proofs.Asked.{asked}
 use Rattle.text.specs.Grammar.{Ty, Tok, word, number, sign, print-text, tok-of}
 use Rattle.text.specs.declared.token.Token.{Token}
 use Rattle.text.proofs.Toks.{kind-sign}
@@ -26,7 +27,7 @@ use Rattle.spelling.specs.Spelling.{Spelt, a-name}
 use Rattle.spelling.specs.Places.{Placed, ran-out, malformed, a-blank, a-token}
 use Rattle.spelling.specs.Speller.{spell, Writable}
 use Rattle.spelling.specs.Theorems.{WellFormed}
-use Rattle.spelling.specs.Refusals.{At, upto-before, upto-here, RefusedMeans, ThreeMeans}
+use Rattle.spelling.specs.Refusals.{At, upto-before, upto-here, RefusedMeans, TwoMeans, ThreeMeans}
 use Rattle.spelling.proofs.Here.{next-here, past-here, found}
 use Rattle.spelling.proofs.Scan.{spelt-scanned}
 use Rattle.spelling.proofs.Read.{text-formed}
@@ -62,7 +63,7 @@ refused-means s q p l h = let r = read-placed s (refused q p) .0 h in go (r .0) 
     go ks pl false e = let z : _≡_ {A = ℕ} 1 q = ap (λ (r : Reading). r .question) e in absurd (omega arith)
     go ks pl true e =
         let z : run-tokens s start ks .question ≡ q = ap (λ (r : Reading). r .question) e in
-        let f : Stop s start ks (run-tokens s start ks .at) = stop s ks start (λ n. omega arith) in
+        let f : Stop s start ks (run-tokens s start ks .question) (run-tokens s start ks .at) = stop s ks start (λ n. omega arith) in
         let b : At s p = record {
           before = f .before;
           here = f .here;
@@ -71,6 +72,43 @@ refused-means s q p l h = let r = read-placed s (refused q p) .0 h in go (r .0) 
           place = f .place ∙ ap (λ (r : Reading). r .at) e;
         } in
         (b, (λ a u ts sp read. f .none u (tokens u) ts (spelt-scanned u _ .0 sp .0 ∙ here-same s p a b ts) (run-read u read)))
+
+-- ---- by 2
+
+two-asked : (s : List ℕ) (st : State) (k : Token) → asked s st k ≡ 2 → k .kind ≡ 1
+unfolding questions first-no token-formed
+two-asked s st k e =
+    eqb-true (k .kind) 1
+    (go (eqb (k .kind) 1) (allowed s st k) (name-bound s st k) (guarded s st k) (ranged s st k) (new-label s st k) (within s st k) e)
+  where
+    go : (a b c d e f g : Bool)
+        → first-no ((2, not a) ∷ (3, b) ∷ (4, c) ∷ (5, d) ∷ (6, e) ∷ (7, f) ∷ (8, g) ∷ []) ≡ 2 → a ≡ true
+    go true b c d e f g h = refl
+    go false false c d e f g h = absurd (omega arith)
+    go false true false d e f g h = absurd (omega arith)
+    go false true true false e f g h = absurd (omega arith)
+    go false true true true false f g h = absurd (omega arith)
+    go false true true true true false g h = absurd (omega arith)
+    go false true true true true true false h = absurd (omega arith)
+    go false true true true true true true h = absurd (omega arith)
+
+pub two-means : TwoMeans
+unfolding refused denied
+two-means s p h a = let r = read-placed s (refused 2 p) .0 h in go (r .0) (r .1) (leb (length s) 8192) (r .2)
+  where
+    go : (ks : List Token) → Placed s 0 ks → (b : Bool) → written (cond b (run-tokens s start ks) (denied 1 0)) ≡ refused 2 p → a .here .kind ≡ 1
+    go ks pl false e = let z : _≡_ {A = ℕ} 1 2 = ap (λ (r : Reading). r .question) e in absurd (omega arith)
+    go ks pl true e =
+        let z : run-tokens s start ks .question ≡ 2 = ap (λ (r : Reading). r .question) e in
+        let f : Stop s start ks (run-tokens s start ks .question) (run-tokens s start ks .at) = stop s ks start (λ n. omega arith) in
+        let b : At s p = record {
+          before = f .before;
+          here = f .here;
+          rest = f .rest;
+          split = subst (Placed s 0) (f .split) pl;
+          place = f .place ∙ ap (λ (r : Reading). r .at) e;
+        } in
+        ap (λ (k : Token). k .kind) (at-once s p a b .1) ∙ two-asked s (f .why .0) (f .here) (f .why .1 ∙ z)
 
 -- ---- by 3
 

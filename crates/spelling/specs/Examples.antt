@@ -1,6 +1,6 @@
 -- Spellings that document 01 gives or rules out, one for each of its sentences on tokens.
 -- Assumes nothing.
-use mathlib.Core.Bool.{false}
+use mathlib.Core.Bool.{true, false}
 use mathlib.Core.List.{List, [], _∷_, _++_}
 use Prim.Native.Nat.{ℕ}
 use Prim.Native.String.{String}
@@ -38,6 +38,8 @@ pub record Examples : Type 0 where
   -- one to eight bytes
   pub eight : Spelt (ascii "Abcdefg8") (word (name "Abcdefg8") ∷ sign K.ran-out ∷ [])
   pub nine : Nothing (ascii "Abcdefgh9")
+  -- a minus belongs to its number
+  pub negative : Spelt (ascii "-5") (number (record { minus = true; value = 5 }) ∷ sign K.ran-out ∷ [])
   -- no minus before 0, no leading zero
   pub minus-zero : Nothing (ascii "-0")
   pub leading-zero : Nothing (ascii "01")

@@ -1,4 +1,4 @@
--- What a refusal by a question at a token means, in tokens that stand in the text (document 01, questions 2 to 8).
+-- What a refusal at a token implies, in tokens that stand in the text (document 01, questions 2 to 8).
 -- Assumes nothing.
 use mathlib.Core.Path.{_≡_}
 use mathlib.Core.List.{List, _∷_, _++_, map}
@@ -9,6 +9,7 @@ use Rattle.text.specs.Reading.{reads}
 use Rattle.text.specs.declared.token.Token.{Token}
 use Rattle.spelling.specs.Spelling.{Spelt}
 use Rattle.spelling.specs.Places.{Placed}
+use Rattle.text.specs.Kind as K
 
 -- the token whose place is p, of those that stand in the text: those before it, it itself and the rest
 pub record At (s : List ℕ) (p : ℕ) : Type 0 where
@@ -30,6 +31,10 @@ abbrev pub RefusedMeans : Type 0
 RefusedMeans =
     (s : List ℕ) (q p : ℕ) → 2 ≤ q → reads s ≡ refused q p
     → At s p × ((a : At s p) (u : List ℕ) (ts : List Tok) → Spelt u (upto-here a ts) → reads u .question ≡ 0 → ⊥)
+
+-- By 2, besides: the token is malformed.
+abbrev pub TwoMeans : Type 0
+TwoMeans = (s : List ℕ) (p : ℕ) → reads s ≡ refused 2 p → (a : At s p) → a .here .kind ≡ K.malformed
 
 -- By 3, besides: no type's tokens, the type legal or not, begin with them; and there is a text of a type whose tokens begin with those
 -- before.
