@@ -194,9 +194,10 @@ line-long bytes = omega (arith, length-append bytes (10 ∷ []))
 compared-some : (d p : Table) (text : List ℕ) → Compared d p text → text ≡ [] → ⊥
 unfolding fit no-fit
 compared-some d p text (says-fit c f n) e = line-some _ e
-compared-some d p text (says-no-fit ks h f l m) e =
-    let z = ap length e in
-    omega (arith, z, length-append (line (ascii "no fit " ++ decimal (length ks))) _, line-long (ascii "no fit " ++ decimal (length ks)))
+compared-some d p text (says-no-fit ks h f l m) e = none-left (ascii "no fit " ++ decimal (length ks)) _ e
+  where
+    none-left : (bytes rest : List ℕ) → line bytes ++ rest ≡ [] → ⊥
+    none-left bytes rest e = let z = ap length e in omega (arith, z, length-append (line bytes) rest, line-long bytes)
 
 reported-some : (protocol device text : List ℕ) → Reported protocol device text → text ≡ [] → ⊥
 unfolding refused-line

@@ -93,7 +93,7 @@ struct Scan {
 // The label of branch k.
 fn label(t: &Table, k: usize) -> u64
     requires { ⌜ k < 128 ⌝ }
-    ensures { λ r. ⌜ r ≡ word-at (now (t .entry)) k ⌝ }
+    ensures { λ r. ⌜ (r ≡ word-at (now (t .entry)) k) × Word r ⌝ }
 {
     label_word(t[LABEL_HIGH + k], t[LABEL_LOW + k])
 }
@@ -107,7 +107,7 @@ pub fn label_word(high: u32, low: u32) -> u64
 
 // Letters and digits, the first in A-Z, then 0x00 to the end.
 pub fn label_legal(w: u64) -> bool
-    ensures { λ r. ⌜ (r ≡ legal-label (label-of w)) × Word w ⌝ }
+    ensures { λ r. ⌜ r ≡ legal-label (label-of w) ⌝ }
 {
     letters::bad_bytes(w) & letters::HIGH_BITS == 0
 }

@@ -17,7 +17,7 @@ use Rattle.message.proofs.opens.Tie as tie
 labelled : (c : tie.After-label-legal) → c .label-legal .result ≡ legal-label (take 8 (c .before .before .before .args .bytes .now))
 labelled c =
     let k = c .before .before in
-    c .label-legal .ensures .0 ∙ ap (λ w. legal-label (label-of w)) (c .before .label-word .ensures)
+    c .label-legal .ensures ∙ ap (λ w. legal-label (label-of w)) (c .before .label-word .ensures)
     ∙ ap legal-label (label-of-word (k .before .args .bytes .now) (omega arith) (λ i. k .shared-slice-known .given i .fits))
 
 returns : tie.Need-returns

@@ -32,7 +32,7 @@ loop-again c =
       search needs,
       search needs,
       filter-more _ _ _ (i .2) (c .before .before .before .before .mark .result)
-          (c .before .before .before .before .mark .ensures .0 ∙ ap (mark-of _) (c .before .before .before .before .before .label .ensures)) _
+          (c .before .before .before .before .mark .ensures .0 ∙ ap (mark-of _) (c .before .before .before .before .before .label .ensures .0)) _
           (with-below (omega arith) (c .before .before .before .with .ensures)),
       all-yes _ (c .before .before .before .before .before .before .before .before .loop .k) (i .3) (sym (c .before .is-alone .ensures) ∙ not-false _ (c .if2 .left)),
     )
@@ -40,7 +40,7 @@ loop-again c =
 loop-again-2 : tie.Need-loop-again-2 Inv-loop μ-loop
 loop-again-2 c =
     let i = c .before .before .before .before .before .before .loop .inv in
-    let e : c .before .before .mark .result ≡ mark-of _ _ = c .before .before .mark .ensures .0 ∙ ap (mark-of _) (c .before .before .before .label .ensures) in
+    let e : c .before .before .mark .result ≡ mark-of _ _ = c .before .before .mark .ensures .0 ∙ ap (mark-of _) (c .before .before .before .label .ensures .0) in
     let w = with-below (omega arith) (c .before .with .ensures) in (
       search needs,
       search needs,

@@ -37,7 +37,7 @@ returns-2 : tie.Need-returns-2 Inv-loop μ-loop
 returns-2 c =
     stopped _ _ _ (c .before .before .before .before .before .before .loop .k) _ (omega arith)
     (λ e. never (in-order-parts _ _ _ e .1)
-    (ap (λ w. legal-label (label-of w)) (sym (c .before .before .label .ensures)) ∙ sym (c .before .label-legal .ensures .0) ∙ not-true _ (c .if2 .taken)))
+    (ap (λ w. legal-label (label-of w)) (sym (c .before .before .label .ensures .0)) ∙ sym (c .before .label-legal .ensures) ∙ not-true _ (c .if2 .taken)))
 
 returns-3 : tie.Need-returns-3 Inv-loop μ-loop
 returns-3 c =
@@ -47,16 +47,16 @@ returns-3 c =
 loop-again : tie.Need-loop-again Inv-loop μ-loop
 loop-again c =
     let i = c .before .before .before .before .before .before .before .before .before .before .loop .inv in
-    let l = c .before .before .before .before .before .before .label .ensures in
+    let l = c .before .before .before .before .before .before .label .ensures .0 in
     let p = sym (c .before .before .before .before .before .before .before .before .in-place .ensures) ∙ not-false _ (c .before .before .before .before .before .before .before .if1 .left) in
-    let q = ap (λ w. legal-label (label-of w)) (sym l) ∙ sym (c .before .before .before .before .before .label-legal .ensures .0) ∙ not-false _ (c .before .before .before .before .if2 .left) in
+    let q = ap (λ w. legal-label (label-of w)) (sym l) ∙ sym (c .before .before .before .before .before .label-legal .ensures) ∙ not-false _ (c .before .before .before .before .if2 .left) in
     let r = sym (c .before .before .before .is-alone .ensures) ∙ not-false _ (c .before .before .if3 .left) in (
       search needs,
       search needs,
       search needs,
       all-yes _ (c .before .before .before .before .before .before .before .before .before .before .loop .k) (i .3) (in-order-by _ _ _ p q r),
       members-more _ _ _ _ (i .4) (with-below (omega (arith, in-place-parts _ _ _ p .0, i .2)) (c .with .ensures)),
-      below-more _ _ (i .5) (subst Word l (c .before .before .before .before .before .label-legal .ensures .1)),
+      below-more _ _ (i .5) (subst Word l (c .before .before .before .before .before .before .label .ensures .1)),
     )
 
 returns-4 : tie.Need-returns-4 Inv-loop μ-loop

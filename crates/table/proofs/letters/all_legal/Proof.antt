@@ -27,7 +27,7 @@ loop-holds c = (search needs, search needs, refl, λ i l. absurd (not-suc-le-zer
 
 loop-again : tie.Need-loop-again Inv-loop μ-loop
 loop-again c =
-    let l = c .before .label .ensures in
+    let l = c .before .label .ensures .0 in
     let i = c .before .before .before .loop .inv in (
       search needs,
       search needs,
