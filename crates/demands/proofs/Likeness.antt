@@ -12,7 +12,7 @@ use Rattle.message.specs.Message.{Message, read, well-formed}
 use Rattle.message.specs.Rules.{Rules}
 use Rattle.types.proofs.Stands.{Alike, neither, each}
 use Rattle.types.proofs.Agree.{why, Rules-alike}
-use Rattle.fit.specs.Machine.{Standing, running, device-blamed, host-blamed, jammed, Machine, Move, Effect, nothing, forward, stop, from-device, from-host, while-running, arrived, fresh-machine, by-side, effect, does, after, move, play, run, bad, Safe, Unsafe}
+use Rattle.fit.specs.Machine.{Standing, running, device-blamed, host-blamed, jammed, Machine, Move, Effect, nothing, forward, halt, from-device, from-host, while-running, arrived, fresh-machine, by-side, effect, does, after, move, play, run, bad, Safe, Unsafe}
 
 -- rules do as they do
 pub alike-itself : {A : Type 0} (r : Rules A) → Rules-alike (_≡_ {A = A}) r r
@@ -32,7 +32,7 @@ module _ {A B C D : Type 0} (S : A → B → Type 0) (T : C → D → Type 0) wh
   data Effects : Effect A C → Effect B D → Type 0 where
     both-nothing : Effects nothing nothing
     both-forward : {i : A} {j : C} {x : B} {y : D} → S i x → T j y → Effects (forward i j) (forward x y)
-    both-stop : (s : Standing) → Effects (stop s) (stop s)
+    both-stop : (s : Standing) → Effects (halt s) (halt s)
 
   record Machines (m : Machine A C) (n : Machine B D) : Type 0 where
     states : S (m .state) (n .state)

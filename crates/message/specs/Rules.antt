@@ -2,7 +2,7 @@
 -- types (types/specs/Types.antt). Demand 2 and the machine of demand 3 are said once, over this.
 -- Assumes nothing.
 use Prim.Native.Nat.{ℕ}
-use mathlib.Core.Bool.{Bool, true, false, not, cond}
+use mathlib.Core.Bool.{Bool, true, false, cond}
 use mathlib.Core.List.{List, [], _∷_}
 use mathlib.Core.Option.{Option, none, some}
 use Rattle.table.specs.Table.{Sort, is-choice, speaker, is-party, Table, sort}

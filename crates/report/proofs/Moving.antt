@@ -25,7 +25,7 @@ use Rattle.table.specs.declared.Party.{Party}
 use Rattle.table.specs.declared.Party.the-variants.{Device, Host}
 use Rattle.fit.specs.Machine.{Move, from-device, from-host, by-side, effect}
 use Rattle.fit.specs.Fit.{field-named, spoken}
-use Rattle.report.specs.Playing.{InTurn, settled, is-device, kept, blames, line-of, LineSaid, Speaking, LineSpoken, Ready}
+use Rattle.report.specs.Playing.{InTurn, settled, is-device, kept, blames, move-at, MoveSaid, Speaking, MoveSpoken, Ready}
 use Rattle.report.specs.declared.play.Said.{Said}
 
 clash : {X : Type 0} → _≡_ {A = ℕ} 0 1 → X
@@ -105,23 +105,23 @@ existing t s k h w f =
 pub record Speaks (own d p : Words) (side : Party) (i k : ℕ) (h : Option ℕ) : Type 0 where
   pub has : exists (view own) k h ≡ true
   pub turn : speaker (sort (view d) i) ≡ some side
-  pub is : record { side = side; bytes = made (branch (view own) k) h } ≡ line-of (view d) (view p) i k h
+  pub is : record { side = side; bytes = made (branch (view own) k) h } ≡ move-at (view d) (view p) i k h
 
 pub spoken-as : {own d p : Words} {side : Party} {i k : ℕ} {h : Option ℕ} → Speaks own d p side i k h
     → {at : ℕ} {message before after : List ℕ} {r : Said}
-    → LineSaid (record { side = side; bytes = made (branch (view own) k) h }) side h at message before after r
-    → LineSpoken (view d) (view p) i k h at message before after r
+    → MoveSaid (record { side = side; bytes = made (branch (view own) k) h }) side h at message before after r
+    → MoveSpoken (view d) (view p) i k h at message before after r
 spoken-as {own} {d} {p} {side} {i} {k} {h} s {at} {message} {before} {after} {r} w =
     record {
       said =
-          subst (λ (x : Party). LineSaid (line-of (view d) (view p) i k h) x h at message before after r) (sym (w .side-is))
-          (subst (λ (v : Move). LineSaid v side h at message before after r) (s .is) w);
+          subst (λ (x : Party). MoveSaid (move-at (view d) (view p) i k h) x h at message before after r) (sym (w .side-is))
+          (subst (λ (v : Move). MoveSaid v side h at message before after r) (s .is) w);
       turn = s .turn ∙ ap some (sym (w .side-is));
       whose = ap (λ (v : Move). v .side) (sym (s .is)) ∙ sym (w .side-is);
     }
 
 pub said-size : {v : Move} {side : Party} {h : Option ℕ} {at : ℕ} {message before after : List ℕ} {r : Said}
-    → LineSaid v side h at message before after r
+    → MoveSaid v side h at message before after r
     → length (v .bytes) ≤ 285
 said-size {message} {r} w =
     omega (arith, w .short, ap length (w .message-is), length-take-le (r .length) message (omega (arith, w .full, w .short)))

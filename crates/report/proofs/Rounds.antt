@@ -20,7 +20,7 @@ use Rattle.message.specs.Judge.{allows}
 use Rattle.message.specs.Layout.{put-at}
 use Rattle.message.proofs.Pieces.{put-length, put-put, put-none}
 use Rattle.fit.specs.Machine.{Standing, running, device-blamed, host-blamed, jammed, Machine, arrived, fresh-machine, Move, Effect}
-use Rattle.fit.specs.Machine.{nothing, forward, stop, effect, does, after, move, play, run, bad, is-forward}
+use Rattle.fit.specs.Machine.{nothing, forward, halt, effect, does, after, move, play, run, bad, is-forward}
 use Rattle.fit.specs.Fit.{shown, Failing}
 use Rattle.fit.specs.Answer.{Fewest}
 use Rattle.fit.proofs.Allow.{goes-by}
@@ -28,7 +28,7 @@ use Rattle.fit.proofs.Columns.{view-sound}
 use Rattle.fit.specs.Search.{does-at}
 use Rattle.fit.proofs.Doing.{Doing, device-on, host-on, doing, does-there}
 use Rattle.report.specs.Report.{move-line, ending}
-use Rattle.report.specs.Playing.{rules, lines-from, blames, kept, pair-of, Plays, line-of, Ready, high-at, ListShows}
+use Rattle.report.specs.Playing.{rules, lines-from, blames, kept, pair-of, Plays, move-at, Ready, high-in, ListShows}
 use Rattle.report.specs.declared.play.Pair.{Pair}
 use Rattle.report.specs.declared.play.Played.{Played}
 use Rattle.report.proofs.Remaining.{at-last, Remains, remains-start, first, first-real, first-forwarded, remains-next}
@@ -73,7 +73,7 @@ module _ (d p : Words) (sd : sound-of d ≡ true) (sp : sound-of p ≡ true) (i 
       go (forward x y) q (device-on a b f g) z = on x y q (leads-inside d sd i _ x f) (leads-inside p sp j _ y g)
       go (forward x y) q (host-on a b f g) z = on x y q (leads-inside d sd i _ x f) (leads-inside p sp j _ y g)
       go nothing q w z = absurd (false≢true z)
-      go (stop s) q w z = absurd (false≢true z)
+      go (halt s) q w z = absurd (false≢true z)
 
   -- a move after which the machine stands badly
   stops : bad (move (rules d) (rules p) (arrived (rules d) (rules p) i j) v .standing) ≡ true
@@ -102,7 +102,7 @@ module _ (d p : Words) (sd : sound-of d ≡ true) (sp : sound-of p ≡ true) (i 
           ≡ cond (r .blamed) (ending device-blamed) (ending jammed)
       go nothing q z = not-blamed (same-sort (sort (view d) i) (sort (view p) j)) (r .blamed) z (ap (λ (s : ℕ × ℕ × Bool). s .2) q)
       go (forward x y) q z = not-blamed (same-sort (sort (view d) x) (sort (view p) y)) (r .blamed) z (ap (λ (s : ℕ × ℕ × Bool). s .2) q)
-      go (stop s) q z = by s (r .blamed) z (ap (λ (s : ℕ × ℕ × Bool). s .2) q)
+      go (halt s) q z = by s (r .blamed) z (ap (λ (s : ℕ × ℕ × Bool). s .2) q)
 
 -- ---- the loop
 
@@ -110,8 +110,8 @@ module _ (d p : Words) (sd : sound-of d ≡ true) (sp : sound-of p ≡ true) (i 
 rest-at : (ks : List ℕ) (n : ℕ) → n < length ks → drop n ks ≡ getD ks n 0 ∷ drop (n + 1) ks
 rest-at ks n l = drop-cons ks n 0 l ∙ ap (λ (m : ℕ). getD ks n 0 ∷ drop m ks) (sym (add-one n))
 
-high-last : (ks : List ℕ) (n : ℕ) (h : Option ℕ) → n < length ks → high-at n (length ks) h ≡ at-last (drop (n + 1) ks) h
-unfolding high-at at-last
+high-last : (ks : List ℕ) (n : ℕ) (h : Option ℕ) → n < length ks → high-in n (length ks) h ≡ at-last (drop (n + 1) ks) h
+unfolding high-in at-last
 high-last ks n h l = go (drop (n + 1) ks) (length-drop (n + 1) ks)
   where
     go : (r : List ℕ) → length r ≡ length ks - (n + 1) → cond (ltb (n + 1) (length ks)) none h ≡ at-last r h
@@ -179,10 +179,10 @@ module _ (d p : Words) (ks : List ℕ) (h : Option ℕ) (sd : sound-of d ≡ tru
     alike : same-sort (sort (view d) (r .state)) (sort (view p) (r .position)) ≡ true
     alike = remains-running (view d) (view p) (r .state) (r .position) k left h remains
 
-    field : high-at n (length ks) h ≡ at-last left h
+    field : high-in n (length ks) h ≡ at-last left h
     field = high-last ks n h l
 
-    pub ready : Ready d p (r .state) (r .position) k (high-at n (length ks) h)
+    pub ready : Ready d p (r .state) (r .position) k (high-in n (length ks) h)
     unfolding arrived
     ready =
         let w = g .going l in
@@ -231,7 +231,7 @@ module _ (d p : Words) (ks : List ℕ) (h : Option ℕ) (sd : sound-of d ≡ tru
 
   pub playing-more : n < length ks → at + 13 * length ks ≤ length before → {after : List ℕ} {played : Played}
       → Plays (view d) (view p) (r .state) (r .position)
-      (line-of (view d) (view p) (r .state) (getD ks n 0) (high-at n (length ks) h)) (high-at n (length ks) h) next now after played
+      (move-at (view d) (view p) (r .state) (getD ks n 0) (high-in n (length ks) h)) (high-in n (length ks) h) next now after played
       → Playing d p ks h at before after (played .pair) (played .at) (n + 1)
   unfolding arrived
   playing-more l room {after} {played} w₀ =
@@ -280,7 +280,7 @@ module _ (d p : Words) (ks : List ℕ) (h : Option ℕ) (sd : sound-of d ≡ tru
       w : Plays (view d) (view p) (r .state) (r .position) v (at-last left h) next now after played
       w =
           subst (λ (x : Option ℕ). Plays (view d) (view p) (r .state) (r .position)
-          (line-of (view d) (view p) (r .state) k x) x next now after played)
+          (move-at (view d) (view p) (r .state) k x) x next now after played)
           (high-last ks n h l) w₀
 
   -- the last line
@@ -332,23 +332,23 @@ module _ (d p : Words) (list : List ℕ) (K : ℕ) (h : Option ℕ) (s : ListSho
     pub shows-room : n < K → next + 24 ≤ length now
     shows-room l = omega (arith, shows-length, g .bound-low (omega (arith, many)), s .few)
 
-    pub shows-ready : n < K → {x : Option ℕ} → x ≡ high-at n K h → Ready d p (r .state) (r .position) (getD list n 0) x
+    pub shows-ready : n < K → {x : Option ℕ} → x ≡ high-in n K h → Ready d p (r .state) (r .position) (getD list n 0) x
     shows-ready l {x} e =
         subst (λ (x : Option ℕ). Ready d p (r .state) (r .position) (getD list n 0) x) (sym e)
-        (subst₂ (λ (k m : ℕ). Ready d p (r .state) (r .position) k (high-at n m h)) (getD-take K list n 0 l) many
+        (subst₂ (λ (k m : ℕ). Ready d p (r .state) (r .position) k (high-in n m h)) (getD-take K list n 0 l) many
         (ready d p (take K list) h (s .d-sound) (s .p-sound) g (omega (arith, many))))
 
-    pub shows-more : n < K → {x : Option ℕ} → x ≡ high-at n K h → {after : List ℕ} {played : Played}
+    pub shows-more : n < K → {x : Option ℕ} → x ≡ high-in n K h → {after : List ℕ} {played : Played}
         → Plays (view d) (view p) (r .state) (r .position)
-        (line-of (view d) (view p) (r .state) (getD list n 0) x) x next now after played
+        (move-at (view d) (view p) (r .state) (getD list n 0) x) x next now after played
         → Playing d p (take K list) h at before after (played .pair) (played .at) (n + 1)
     shows-more l {x} e {after} {played} w =
         playing-more d p (take K list) h (s .d-sound) (s .p-sound) g (omega (arith, many)) (omega (arith, many, s .few))
         (subst₂ (λ (k m : ℕ). Plays (view d) (view p) (r .state) (r .position)
-        (line-of (view d) (view p) (r .state) k (high-at n m h)) (high-at n m h) next now after played)
+        (move-at (view d) (view p) (r .state) k (high-in n m h)) (high-in n m h) next now after played)
         (sym (getD-take K list n 0 l)) (sym many)
         (subst (λ (x : Option ℕ). Plays (view d) (view p) (r .state) (r .position)
-        (line-of (view d) (view p) (r .state) (getD list n 0) x) x next now after played) e w))
+        (move-at (view d) (view p) (r .state) (getD list n 0) x) x next now after played) e w))
 
     pub shows-end : K ≤ n → {after : List ℕ} {x : ℕ}
         → (x ≡ next + length (cond (r .blamed) (ending device-blamed) (ending jammed))) × (x ≤ next + 7)

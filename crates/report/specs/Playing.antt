@@ -14,7 +14,7 @@ use Rattle.message.specs.Make.{made, branch, opening}
 use Rattle.message.specs.Layout.{put-at}
 use Rattle.message.specs.Rules.{Rules, table-rules}
 use Rattle.table.specs.declared.Party.{Party}
-use Rattle.fit.specs.Machine.{Machine, Move, Effect, nothing, forward, stop, Standing, running, device-blamed, host-blamed, jammed}
+use Rattle.fit.specs.Machine.{Machine, Move, Effect, nothing, forward, halt, Standing, running, device-blamed, host-blamed, jammed}
 use Rattle.fit.specs.Machine.{effect, fresh-machine, play}
 use Rattle.fit.specs.Fit.{spoken, shown, field-named, Failing}
 use Rattle.fit.specs.Answer.{Fewest}
@@ -69,10 +69,10 @@ blames jammed = false
 unfoldable pub kept : ℕ → ℕ → Effect ℕ ℕ → Stand
 kept i j nothing = (i, j, false)
 kept i j (forward x y) = (x, y, false)
-kept i j (stop s) = (i, j, blames s)
+kept i j (halt s) = (i, j, blames s)
 
 -- what is said: a move's message, and its line from a place on
-pub record LineSaid (v : Move) (side : Party) (h : Option ℕ) (at : ℕ) (message before after : List ℕ) (r : Said) : Type 0 where
+pub record MoveSaid (v : Move) (side : Party) (h : Option ℕ) (at : ℕ) (message before after : List ℕ) (r : Said) : Type 0 where
   pub full : length message ≡ 285
   pub short : r .length ≤ 285
   pub side-is : r .side ≡ side
@@ -90,8 +90,8 @@ pub record Plays (d p : Table) (i j : ℕ) (v : Move) (h : Option ℕ) (at : ℕ
   pub written : after ≡ put-at at (move-line v h) before
 
 -- the move of branch k at device state i
-abbrev pub line-of : Table → Table → ℕ → ℕ → Option ℕ → Move
-line-of d p i k h = spoken d p (sort d i) k h
+abbrev pub move-at : Table → Table → ℕ → ℕ → Option ℕ → Move
+move-at d p i k h = spoken d p (sort d i) k h
 
 -- the move of a table's branch k, said by a side
 abbrev pub move-of : Table → Party → ℕ → Option ℕ → Move
@@ -102,8 +102,8 @@ pub record Speaking (d p : Words) (i k : ℕ) (h : Option ℕ) : Type 0 where
   pub d-sound : sound-of d ≡ true
   pub p-sound : sound-of p ≡ true
   pub i-inside : i < states-of d
-  pub formed : well-formed (line-of (view d) (view p) i k h .bytes) ≡ true
-  pub field : field-named h (count-of (line-of (view d) (view p) i k h .bytes)) ≡ true
+  pub formed : well-formed (move-at (view d) (view p) i k h .bytes) ≡ true
+  pub field : field-named h (count-of (move-at (view d) (view p) i k h .bytes)) ≡ true
 
 -- and the two states are of one sort
 pub record Ready (d p : Words) (i j k : ℕ) (h : Option ℕ) : Type 0 where
@@ -112,16 +112,16 @@ pub record Ready (d p : Words) (i j k : ℕ) (h : Option ℕ) : Type 0 where
   pub alike : same-sort (sort (view d) i) (sort (view p) j) ≡ true
 
 -- the move is said by the side whose turn it is
-pub record LineSpoken (d p : Table) (i k : ℕ) (h : Option ℕ) (at : ℕ) (message before after : List ℕ) (r : Said) : Type 0 where
-  pub said : LineSaid (line-of d p i k h) (r .side) h at message before after r
+pub record MoveSpoken (d p : Table) (i k : ℕ) (h : Option ℕ) (at : ℕ) (message before after : List ℕ) (r : Said) : Type 0 where
+  pub said : MoveSaid (move-at d p i k h) (r .side) h at message before after r
   pub turn : speaker (sort d i) ≡ some (r .side)
-  pub whose : line-of d p i k h .side ≡ r .side
+  pub whose : move-at d p i k h .side ≡ r .side
 
 -- ---- all moves
 
 -- the field of move n, of as many as K
-unfoldable pub high-at : ℕ → ℕ → Option ℕ → Option ℕ
-high-at n K h = cond (ltb (n + 1) K) none h
+unfoldable pub high-in : ℕ → ℕ → Option ℕ → Option ℕ
+high-in n K h = cond (ltb (n + 1) K) none h
 
 -- the rules of a table's words
 abbrev pub rules : Words → Rules ℕ

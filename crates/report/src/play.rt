@@ -8,8 +8,8 @@ ghost use Rattle.table.specs.View.{view, sound-of};
 ghost use Rattle.message.specs.Message.{read, well-formed};
 ghost use Rattle.message.specs.Judge.{allows};
 ghost use Rattle.message.specs.Make.{exists, high-of};
-ghost use Rattle.report.specs.Playing.{heard-of, pair-of, settled, is-device, high-at, line-of, move-of};
-ghost use Rattle.report.specs.Playing.{InTurn, LineSaid, Speaking, LineSpoken, Plays, Ready, ListShows, Ended};
+ghost use Rattle.report.specs.Playing.{heard-of, pair-of, settled, is-device, high-in, move-at, move-of};
+ghost use Rattle.report.specs.Playing.{InTurn, MoveSaid, Speaking, MoveSpoken, Plays, Ready, ListShows, Ended};
 use crate::write;
 use message::High;
 use message::Made;
@@ -124,7 +124,7 @@ fn say(
 ) -> Said
     requires { ⌜ (sound-of (now t) ≡ true) × (exists (view (now t)) k (high-of named) ≡ true) × (at + 24 ≤ length (now out))
         × (length (now message) ≡ 285) ⌝ }
-    ensures { λ r. ⌜ LineSaid (move-of (view (now (t .entry))) side k (high-of named)) side (high-of named) at
+    ensures { λ r. ⌜ MoveSaid (move-of (view (now (t .entry))) side k (high-of named)) side (high-of named) at
         (now (message .exit)) (now (out .entry)) (now (out .exit)) r ⌝ }
 {
     let m = message::make(t, k, named, message);
@@ -157,7 +157,7 @@ fn speak(
     at: usize,
 ) -> Said
     requires { ⌜ Speaking (now d) (now p) i k (high-of named) × (at + 24 ≤ length (now out)) × (length (now message) ≡ 285) ⌝ }
-    ensures { λ r. ⌜ LineSpoken (view (now (d .entry))) (view (now (p .entry))) i k (high-of named) at
+    ensures { λ r. ⌜ MoveSpoken (view (now (d .entry))) (view (now (p .entry))) i k (high-of named) at
         (now (message .exit)) (now (out .entry)) (now (out .exit)) r ⌝ }
 {
     if d[table::SORT + i as usize] == 1 {
@@ -179,7 +179,7 @@ fn turn(
 ) -> Played
     requires { ⌜ Ready (now d) (now p) i j k (high-of named) × (at + 24 ≤ length (now out)) ⌝ }
     ensures { λ r. ⌜ Plays (view (now (d .entry))) (view (now (p .entry))) i j
-        (line-of (view (now (d .entry))) (view (now (p .entry))) i k (high-of named)) (high-of named) at
+        (move-at (view (now (d .entry))) (view (now (p .entry))) i k (high-of named)) (high-of named) at
         (now (out .entry)) (now (out .exit)) r ⌝ }
 {
     let mut message = [0u8; 285];
@@ -193,7 +193,7 @@ fn turn(
 // The field that is high is one of the last move's.
 fn field_at(n: u16, count: u16, high: High) -> High
     requires { ⌜ n < count ⌝ }
-    ensures { λ r. ⌜ high-of r ≡ high-at n count (high-of high) ⌝ }
+    ensures { λ r. ⌜ high-of r ≡ high-in n count (high-of high) ⌝ }
 {
     if n + 1 < count {
         return High::Nothing;

@@ -19,7 +19,7 @@ use Rattle.monitor.specs.declared.Verdict.the-variants.{Blamed}
 use Rattle.monitor.specs.declared.Stepped.{Stepped}
 use Rattle.monitor.specs.Step.{of-state, told, refusing, stepping, outcome}
 use Rattle.table.specs.Lists.{first-no}
-use Rattle.monitor.specs.Due.{Awaited, refused, of-side, sending, awaited}
+use Rattle.monitor.specs.Due.{Awaited, refused, of-side, sender-awaited, awaited}
 use Rattle.monitor.proofs.Asking.{zero-or, not-its-turn, stops-there, goes-on, asked-first, asked-then, refused-step}
 use Rattle.sojimu.specs.declared.steps.Verdict.{Verdict}
 use Rattle.sojimu.specs.Codes.{code-side, state-of, state-bytes, verdict-codes}
@@ -43,8 +43,8 @@ not-awaited (of-side Device) = refl
 not-awaited (of-side Host) = refl
 not-awaited (refused q) = refl
 
-its-sending : (side : Party) (o : Option Party) → is-party side o ≡ its-turn side (sending o)
-unfolding is-party its-turn sending
+its-sending : (side : Party) (o : Option Party) → is-party side o ≡ its-turn side (sender-awaited o)
+unfolding is-party its-turn sender-awaited
 its-sending Device none = refl
 its-sending Host none = refl
 its-sending side (some p) = refl

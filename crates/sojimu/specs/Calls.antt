@@ -50,7 +50,7 @@ due-codes (of-side Device) device host = record { side = 0; length = first-lengt
 due-codes (of-side Host) device host = record { side = 1; length = first-length host }
 due-codes (D.refused q) device host = record { side = 0; length = 0 }
 
--- the part that they name: the first `length` of that side's bytes. It is the due part of document 01 (proofs/Due, due-part)
+-- the part that they name: the first `length` of that side's bytes. It is the due part of document 01 (`DuePart`)
 unfoldable pub waiting : ℕ → RefT (List ℕ) → RefT (List ℕ) → RefT (List ℕ)
 waiting zero device host = device
 waiting (suc n) device host = host

@@ -1,4 +1,4 @@
--- The codes that stand for document 01's answers in C and Rust. What does not apply in a case is 0.
+-- The codes that stand for document 01's answers in C and Rust. What does not apply in a case is 0, but 255 for the field that is high.
 -- Assumes nothing.
 use mathlib.Core.Bool.{cond}
 use mathlib.Core.List.{List, [], _∷_}

@@ -1,6 +1,6 @@
 // The exports for C and Rust (include/sojimu.h): every call of the crates below over numbers, slices and tables that are lent.
-// Enums cross as codes, by the definitions in specs/Codes. No call has a precondition, keeps anything between calls, or changes
-// what it was lent on a refusal. A number that is too large for what it names is refused, and never narrowed.
+// Enums cross as codes, by the definitions in specs/Codes. No call has a precondition or keeps anything between calls. A
+// refusal changes nothing that was lent, but for the place of the table that is read into, which then holds the empty one. A number that is too large for what it names is refused, and never narrowed.
 ghost use mathlib.Core.Path.{_≡_};
 
 mod fits;

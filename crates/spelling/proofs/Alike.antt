@@ -14,7 +14,7 @@ use Rattle.text.specs.Token.{word-in}
 use Rattle.text.specs.Number.{Signed, signed-in, offset, in-kind}
 use Rattle.text.specs.Grammar.{Tok, word, number, sign, tok-of, or-else}
 use Rattle.text.specs.Building.{label-used, denied}
-use Rattle.text.specs.Reading.{Item, just, name, label, type, more, fields, field, low, high, more-fields, Open, State, state, open-in, table-in, next-item, meaning, owner-in, admits, as-type, is-found, number-in-range, as-label, token-formed, allowed, name-bound, guarded, ranged, new-label, within, target, began, taken, run-tokens, questions}
+use Rattle.text.specs.Reading.{Item, just, name, label, type, more, fields, field, low, high, more-fields, Open, State, state, open-in, table-in, next-item, meaning, owner-in, admits, as-type, is-found, number-in-range, as-label, token-formed, grammar-allows, name-bound, guarded, ranged, new-label, within, target, began, taken, run-tokens, questions}
 use Rattle.text.specs.declared.token.Token.{Token}
 use Rattle.text.proofs.Toks.{word-kind, number-kind, kind-word, kind-number}
 use Rattle.text.proofs.Goes.{first-is, rest-is, never-empty, passed}
@@ -94,8 +94,8 @@ module _ (s u : List ℕ) (k j : Token) (same : tok-of s k ≡ tok-of u j) where
   unfolding token-formed
   formed-same st = rw kind-same
 
-  allowed-same : (st : State) → allowed s st k ≡ allowed u st j
-  unfolding allowed
+  allowed-same : (st : State) → grammar-allows s st k ≡ grammar-allows u st j
+  unfolding grammar-allows
   allowed-same st = rw kind-same
 
   named-same : (st : State) → name-bound s st k ≡ name-bound u st j
@@ -106,12 +106,12 @@ module _ (s u : List ℕ) (k j : Token) (same : tok-of s k ≡ tok-of u j) where
   unfolding guarded
   guarded-same st = rw kind-same
 
-  ranged-same : (st : State) → allowed s st k ≡ true → ranged s st k ≡ ranged u st j
-  unfolding allowed ranged
+  ranged-same : (st : State) → grammar-allows s st k ≡ true → ranged s st k ≡ ranged u st j
+  unfolding grammar-allows ranged
   ranged-same st a = range-same (next-item st) a
 
-  new-same : (st : State) → allowed s st k ≡ true → new-label s st k ≡ new-label u st j
-  unfolding allowed new-label
+  new-same : (st : State) → grammar-allows s st k ≡ true → new-label s st k ≡ new-label u st j
+  unfolding grammar-allows new-label
   new-same st a = label-same (next-item st) (table-in st) (owner-in (open-in st)) a
 
   within-same : (st : State) → within s st k ≡ within u st j
@@ -123,7 +123,7 @@ module _ (s u : List ℕ) (k j : Token) (same : tok-of s k ≡ tok-of u j) where
   asked-same st =
       rw (formed-same st, named-same st, guarded-same st, within-same st)
       (behind (token-formed u st j) (λ r n. cond (name-bound u st j) (cond (guarded u st j) (cond r (cond n (cond (within u st j) 0 8) 7) 6) 5) 4)
-      (allowed s st k) (allowed u st j) (ranged s st k) (ranged u st j) (new-label s st k) (new-label u st j) (allowed-same st) (ranged-same st) (new-same st))
+      (grammar-allows s st k) (grammar-allows u st j) (ranged s st k) (ranged u st j) (new-label s st k) (new-label u st j) (allowed-same st) (ranged-same st) (new-same st))
     where
       -- after 3, what is asked may go by 3
       behind : (w : Bool) (f : Bool → Bool → ℕ) (a b r q n m : Bool) → a ≡ b → (a ≡ true → r ≡ q) → (a ≡ true → n ≡ m)
@@ -141,8 +141,8 @@ module _ (s u : List ℕ) (k j : Token) (same : tok-of s k ≡ tok-of u j) where
   unfolding began
   began-same E O T = rw kind-same
 
-  taken-same : (st : State) → allowed s st k ≡ true → taken s st k ≡ taken u st j
-  unfolding taken allowed
+  taken-same : (st : State) → grammar-allows s st k ≡ true → taken s st k ≡ taken u st j
+  unfolding taken grammar-allows
   taken-same (state [] O b T) a = refl
   taken-same (state (just n ∷ E) O b T) a = refl
   taken-same (state (name ∷ E) O b T) a = rw (word-same a)

@@ -16,7 +16,7 @@ use Rattle.text.specs.Token.{token}
 use Rattle.text.specs.Scanner.{tokens}
 use Rattle.text.specs.Building.{denied}
 use Rattle.text.specs.Filled.{Reading, refused, written}
-use Rattle.text.specs.Reading.{State, token-formed, allowed, name-bound, guarded, ranged, new-label, within, questions, start, run-tokens, built, reads}
+use Rattle.text.specs.Reading.{State, token-formed, grammar-allows, name-bound, guarded, ranged, new-label, within, questions, start, run-tokens, built, reads}
 use Rattle.text.proofs.Asked.{asked}
 use Rattle.text.specs.Grammar.{Ty, Tok, word, number, sign, print-text, tok-of}
 use Rattle.text.specs.declared.token.Token.{Token}
@@ -79,7 +79,7 @@ two-asked : (s : List ℕ) (st : State) (k : Token) → asked s st k ≡ 2 → k
 unfolding questions first-no token-formed
 two-asked s st k e =
     eqb-true (k .kind) 1
-    (go (eqb (k .kind) 1) (allowed s st k) (name-bound s st k) (guarded s st k) (ranged s st k) (new-label s st k) (within s st k) e)
+    (go (eqb (k .kind) 1) (grammar-allows s st k) (name-bound s st k) (guarded s st k) (ranged s st k) (new-label s st k) (within s st k) e)
   where
     go : (a b c d e f g : Bool)
         → first-no ((2, not a) ∷ (3, b) ∷ (4, c) ∷ (5, d) ∷ (6, e) ∷ (7, f) ∷ (8, g) ∷ []) ≡ 2 → a ≡ true

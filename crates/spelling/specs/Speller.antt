@@ -1,12 +1,12 @@
--- A speller: a text of a type, each token's bytes followed by a space. So every type has a text whose names, labels and numbers can be
--- written at all.
+-- A speller: a text of a type, each token's bytes followed by a space. So every type whose names, labels and numbers can be written at all
+-- has a text.
 -- Assumes nothing.
 use mathlib.Core.Path.{_≡_}
 use mathlib.Core.Bool.{true, cond}
 use mathlib.Core.List.{List, [], _∷_, _++_}
-use Prim.Native.Nat.{ℕ, zero, suc, _+_, _/_, _%_}
+use Prim.Native.Nat.{ℕ, suc}
 use Prim.Native.String.{String}
-use lib.Dec.{ltb, eqb}
+use lib.Dec.{eqb}
 use Rattle.table.specs.Table.{legal-label}
 use Rattle.table.specs.View.{label-of}
 use Rattle.text.specs.Token.{word-of}

@@ -1,11 +1,11 @@
 -- How the program finds the tokens of a text, from the left. It need not be believed: what a text spells is said without it, and the two are
 -- the same (spelling/specs/Theorems.antt, SpeltScanned and ReadPlaced).
 -- Assumes nothing.
-use mathlib.Core.Bool.{Bool, true, false, _&&_, cond}
+use mathlib.Core.Bool.{Bool, _&&_, cond}
 use mathlib.Core.List.{List, [], _∷_}
-use Prim.Native.Nat.{ℕ, zero, suc, _+_, _-_, _*_, _^_}
+use Prim.Native.Nat.{ℕ, zero, suc, _+_, _-_}
 use lib.Dec.{leb, eqb}
-use lib.ListN.{length, drop, take, getD}
+use lib.ListN.{length, drop, getD}
 use Rattle.table.specs.Ascii.{ascii}
 use Rattle.table.specs.Lists.{same}
 use Rattle.table.specs.Table.{letter-or-digit}

@@ -17,10 +17,10 @@ use Rattle.message.specs.Message.{read, well-formed}
 use Rattle.message.specs.Rules.{Rules, table-rules, Said, turn, next, leads, led}
 use Rattle.message.proofs.Judging.{none-some, some-eq}
 use Rattle.monitor.specs.Step.{fresh, Told, refused, blamed, forwarded, Outcome, outcome}
-use Rattle.monitor.proofs.Demand.{or-else, blamed-append, forwarded-append, leads-more, next-in-turn, demand-two, answered}
+use Rattle.monitor.proofs.Demand.{or-else, blamed-append, forwarded-append, leads-more, next-in-turn, demand-two, replies-kept}
 use Rattle.monitor.specs.Conversation.{Sent, Event, event, conversation, said-by, is-forwarded, forwarded-ones, blamed-else, blamed-first, Judgeable, Met, WatchedTable, Reply}
-use Rattle.fit.specs.Machine.{Standing, running, device-blamed, jammed, Machine, Move, moves, Effect, nothing, forward, stop, from-device, from-host, while-running, arrived, fresh-machine, by-side, effect, does, after, move, play, run, bad, Safe}
-use Rattle.together.specs.Unblamed.{FitsUnblamed, FitsUnanswered}
+use Rattle.fit.specs.Machine.{Standing, running, device-blamed, jammed, Machine, Move, moves, Effect, nothing, forward, halt, from-device, from-host, while-running, arrived, fresh-machine, by-side, effect, does, after, move, play, run, bad, Safe}
+use Rattle.together.specs.Unblamed.{FitsUnblamed, RepliesUnblamed}
 
 -- ---- lists in a row
 
@@ -137,10 +137,10 @@ module _ (D : Type 0) (d : Rules D) (p : Words) (safe : Safe d (table-rules (vie
     led-on y k f = record { by = l .by ++ (as-move m ∷ []); real = moves-one (l .by) (as-move m) (l .real) formed; is = one-more (forward y k) f }
 
     -- and none ends badly
-    stops-well : (s : Standing) → effect d R x j (as-move m) ≡ stop s → bad s ≡ false
+    stops-well : (s : Standing) → effect d R x j (as-move m) ≡ halt s → bad s ≡ false
     unfolding after Safe
     stops-well s f =
-        sym (ap (λ (k : Machine D ℕ). bad (k .standing)) (one-more (stop s) f))
+        sym (ap (λ (k : Machine D ℕ). bad (k .standing)) (one-more (halt s) f))
         ∙ safe (l .by ++ (as-move m ∷ [])) (moves-one (l .by) (as-move m) (l .real) formed)
 
     device-effect : (o : Option D) (q : Option ℕ) → m .side ≡ Device → same-sort (d .sort x) sends ≡ true
@@ -342,16 +342,16 @@ fits-unblamed D d p sound safe sent keeps = record { never = f .spared; followed
     f = follow D d p safe [] (conversation p sent) (start D d p safe) (λ a e b q. w .demand .each a e b q)
         (λ a e b q m s j x h. keeps a e b q s (subst (λ (i : ℕ). Judgeable (table-rules (view p)) a i (e .sent)) (some-eq (sym (m .there) ∙ w .before a e b q .position)) j) x h)
 
-pub fits-unanswered : FitsUnanswered
+pub replies-unblamed : RepliesUnblamed
 unfolding outcome blamed-first blamed-else
-fits-unanswered D d p sound safe answers kept keeps earlier a later q r g b = fits-unblamed D d p sound safe sent keeps .never first
+replies-unblamed D d p sound safe answers kept keeps earlier a later q r g b = fits-unblamed D d p sound safe sent keeps .never first
   where
     sent : List Sent
     sent = map (λ (a : Reply). a .sent) answers
 
     x : Fellow (λ (a : Reply). outcome (a .given) (a .output)) (λ (e : Event). e .done) a (conversation p sent)
     x = fellow (λ (a : Reply). outcome (a .given) (a .output)) (λ (e : Event). e .done) earlier a later (conversation p sent)
-        (ap (map (λ (a : Reply). outcome (a .given) (a .output))) (sym q) ∙ answered p answers kept)
+        (ap (map (λ (a : Reply). outcome (a .given) (a .output))) (sym q) ∙ replies-kept p answers kept)
 
     verdict : x .its .done .verdict ≡ blamed Device r g
     verdict = sym (ap (λ (o : Outcome). o .verdict) (x .same)) ∙ b

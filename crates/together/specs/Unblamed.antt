@@ -1,4 +1,5 @@
--- A device that fits is never blamed, over whole conversations of the monitor's steps: any messages, from any side, with any room.
+-- A device that fits and keeps to its description is never blamed, over whole conversations of the monitor's steps: whatever the host
+-- says, and whatever comes early, damaged or without room.
 -- Assumes nothing.
 use mathlib.Core.Path.{_≡_}
 use mathlib.Core.Bool.{true}
@@ -28,8 +29,8 @@ module _ {D : Type 0} (d : Rules D) (p : Words) where
     pub followed : (x : D) × (led d (forwarded-ones (conversation p sent)) ≡ some x)
 
 -- no answer blames the device
-abbrev pub NeverAnswered : List Reply → Type 0
-NeverAnswered answers =
+abbrev pub NoReplyBlames : List Reply → Type 0
+NoReplyBlames answers =
     (earlier : List Reply) (a : Reply) (later : List Reply) → answers ≡ earlier ++ (a ∷ later)
     → (r : ℕ) (f : Option ℕ) → told (a .given .verdict) ≡ blamed Device r f → ⊥
 
@@ -40,7 +41,7 @@ FitsUnblamed =
     → (sent : List Sent) → Keeps d p sent → Unblamed d p sent
 
 -- and so of every list of answers that keep the promise of `step` or of `advance`
-abbrev pub FitsUnanswered : Type 1
-FitsUnanswered =
+abbrev pub RepliesUnblamed : Type 1
+RepliesUnblamed =
     (D : Type 0) (d : Rules D) (p : Words) → sound-of p ≡ true → Safe d (table-rules (view p))
-    → (answers : List Reply) → Kept p fresh answers → Keeps d p (map (λ (a : Reply). a .sent) answers) → NeverAnswered answers
+    → (answers : List Reply) → Kept p fresh answers → Keeps d p (map (λ (a : Reply). a .sent) answers) → NoReplyBlames answers
