@@ -3,7 +3,7 @@ use mathlib.Core.Bool.{Bool, true, not}
 use mathlib.Core.List.{List}
 use Prim.Native.Nat.{ℕ}
 use Rattle.table.specs.Lists.{first-no}
-use Rattle.text.specs.Grammar.{Br, everywhere-br, is-name, fields-in, fields-legal, label-new}
+use Rattle.text.specs.Grammar.{Br, everywhere-br, bare, fields-in, fields-legal, label-new}
 use Rattle.text.specs.Reading.{State, questions}
 use Rattle.text.specs.declared.token.Token.{Token}
 
@@ -11,10 +11,10 @@ abbrev pub asked : List ℕ → State → Token → ℕ
 asked s st k = first-no (questions s st k)
 
 abbrev pub recs-guarded-br : Br → Bool
-recs-guarded-br bs = everywhere-br (λ u. not (is-name u)) (λ bs. true) bs
+recs-guarded-br bs = everywhere-br (λ x u. not (bare u x)) (λ bs. true) bs
 
 abbrev pub branches-legal-br : Br → Bool
-branches-legal-br bs = everywhere-br (λ u. true) (λ bs. fields-legal (fields-in bs)) bs
+branches-legal-br bs = everywhere-br (λ x u. true) (λ bs. fields-legal (fields-in bs)) bs
 
 abbrev pub labels-new-br : Br → Bool
-labels-new-br bs = everywhere-br (λ u. true) label-new bs
+labels-new-br bs = everywhere-br (λ x u. true) label-new bs
