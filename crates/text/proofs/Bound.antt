@@ -8,8 +8,8 @@ use native.Mathlib.Numerals.{add-one}
 use native.Mathlib.Omega.{arith}
 use lib.Dec.{eqb}
 use lib.ListN.{length, set, getD, length-set}
-use borrow.Author.Tests.{le-leb, lt-leb}
 use lib.Seq.{getD-set-same, getD-set-other}
+use borrow.Author.Tests.{le-leb, lt-leb}
 use Rattle.text.specs.Recursive.{Env, bound-in, name-in, Room, empty-env, bind-at, bind-in, find-in, find, since-in, since}
 
 module _ (e : Env) (i x n : ℕ) (room : i < 16) (long : length e ≡ 49) where
@@ -89,8 +89,7 @@ module _ (e : Env) (i x n : ℕ) (room : i < 16) (long : length e ≡ 49) where
   below-since : (g j y : ℕ) → j ≤ i → since-in (bind-at e i x n) g j y ≡ since-in e g j y
   unfolding since-in
   below-since g zero y h = refl
-  below-since g (suc j) y h =
-      rw (name-stays j h, below-since g j y (le-of-lt h))
+  below-since g (suc j) y h = rw (name-stays j h, below-since g j y (le-of-lt h))
 
 module _ (e : Env) (x n : ℕ) (room : bound-in e < 16) (long : length e ≡ 49) where
   bind-long : length (bind-in e x n) ≡ 49
