@@ -1,6 +1,6 @@
--- One name more in scope: it is found, and so are those that were bound before it. Assumes nothing.
+-- One name more in scope: it is found, also among those bound since a place, and so are those that were bound before it. Assumes nothing.
 use mathlib.Core.Path.{_≡_, refl, _∙_}
-use mathlib.Core.Bool.{cond}
+use mathlib.Core.Bool.{true, false, cond}
 use mathlib.Core.Option.{some}
 use Prim.Native.Nat.{ℕ, zero, suc, _+_, _-_, _/_, _%_, _≤_, _<_}
 use native.Mathlib.Nat.{le-of-lt, pos-of-ne-zero}
@@ -9,7 +9,8 @@ use native.Mathlib.Omega.{arith}
 use lib.Dec.{eqb}
 use lib.ListN.{length, set, getD, length-set}
 use lib.Seq.{getD-set-same, getD-set-other}
-use Rattle.text.specs.Recursive.{Env, bound-in, name-in, Room, empty-env, bind-at, bind-in, find-in, find}
+use borrow.Author.Tests.{le-leb, lt-leb}
+use Rattle.text.specs.Recursive.{Env, bound-in, name-in, Room, empty-env, bind-at, bind-in, find-in, find, since-in, since}
 
 module _ (e : Env) (i x n : ℕ) (room : i < 16) (long : length e ≡ 49) where
   high : ℕ
@@ -76,18 +77,26 @@ module _ (e : Env) (i x n : ℕ) (room : i < 16) (long : length e ≡ 49) where
       getD-set-other three 0 j (i + 1) 0 a ∙ getD-set-other two (33 + i) j low 0 d ∙ getD-set-other one (17 + i) j high 0 c
       ∙ getD-set-other e (1 + i) j n 0 b
 
+  name-stays : (j : ℕ) → j < i → name-in (bind-at e i x n) j ≡ name-in e j
+  name-stays j h = rw (stays (17 + j) (λ z. omega arith) (λ z. omega arith) (λ z. omega arith) (λ z. omega arith), stays (33 + j) (λ z. omega arith) (λ z. omega arith) (λ z. omega arith) (λ z. omega arith))
+
   below : (j y : ℕ) → j ≤ i → find-in (bind-at e i x n) j y ≡ find-in e j y
   unfolding find-in
   below zero y h = refl
   below (suc j) y h =
-      rw (stays (17 + j) (λ z. omega arith) (λ z. omega arith) (λ z. omega arith) (λ z. omega arith), stays (33 + j) (λ z. omega arith) (λ z. omega arith) (λ z. omega arith) (λ z. omega arith), stays (1 + j) (λ z. omega arith) (λ z. omega arith) (λ z. omega arith) (λ z. omega arith), below j y (le-of-lt h))
+      rw (name-stays j h, stays (1 + j) (λ z. omega arith) (λ z. omega arith) (λ z. omega arith) (λ z. omega arith), below j y (le-of-lt h))
+
+  below-since : (g j y : ℕ) → j ≤ i → since-in (bind-at e i x n) g j y ≡ since-in e g j y
+  unfolding since-in
+  below-since g zero y h = refl
+  below-since g (suc j) y h = rw (name-stays j h, below-since g j y (le-of-lt h))
 
 module _ (e : Env) (x n : ℕ) (room : bound-in e < 16) (long : length e ≡ 49) where
   bind-long : length (bind-in e x n) ≡ 49
   unfolding bind-in
   bind-long = at-long e (bound-in e) x n room long
 
-  bind-count : bound-in (bind-in e x n) ≡ bound-in e + 1
+  pub bind-count : bound-in (bind-in e x n) ≡ bound-in e + 1
   unfolding bind-in
   bind-count = at-count e (bound-in e) x n room long
 
@@ -95,6 +104,20 @@ module _ (e : Env) (x n : ℕ) (room : bound-in e < 16) (long : length e ≡ 49)
   unfolding bind-in find-in
   bind-find y =
       rw (at-count e (bound-in e) x n room long, add-one (bound-in e), at-name e (bound-in e) x n room long, at-state e (bound-in e) x n room long, below e (bound-in e) x n room long (bound-in e) y (omega arith))
+
+  pub bind-since : (g y : ℕ) → g ≤ bound-in e → since (bind-in e x n) g y ≡ cond (eqb x y) true (since e g y)
+  unfolding bind-in since-in
+  bind-since g y h =
+      rw (at-count e (bound-in e) x n room long, add-one (bound-in e), le-leb g (bound-in e) h, at-name e (bound-in e) x n room long, below-since e (bound-in e) x n room long g (bound-in e) y (omega arith))
+
+-- nothing is bound since now
+pub since-now : (e : Env) (y : ℕ) → since e (bound-in e) y ≡ false
+unfolding since-in
+since-now e y = go (bound-in e)
+  where
+    go : (i : ℕ) → since-in e i i y ≡ false
+    go zero = refl
+    go (suc i) = rw (lt-leb (suc i) i (omega arith))
 
 pub room-empty : Room empty-env 16
 unfolding empty-env
