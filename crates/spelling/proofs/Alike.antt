@@ -14,7 +14,7 @@ use Rattle.text.specs.Token.{word-in}
 use Rattle.text.specs.Number.{Signed, signed-in, offset, in-kind}
 use Rattle.text.specs.Grammar.{Tok, word, number, sign, tok-of, or-else}
 use Rattle.text.specs.Building.{label-used, denied}
-use Rattle.text.specs.Reading.{Item, just, name, label, type, more, fields, field, low, high, more-fields, Open, State, state, open-in, table-in, next-item, meaning, owner-in, admits, as-type, is-found, number-in-range, as-label, token-formed, grammar-allows, name-bound, guarded, ranged, new-label, within, target, began, taken, run-tokens, questions}
+use Rattle.text.specs.Reading.{Item, just, name, label, type, more, fields, field, low, high, more-fields, Open, State, state, open-in, table-in, next-item, meaning, unguarded, owner-in, admits, as-type, is-found, number-in-range, as-label, token-formed, grammar-allows, name-bound, guarded, ranged, new-label, within, target, began, taken, run-tokens, questions}
 use Rattle.text.specs.declared.token.Token.{Token}
 use Rattle.text.proofs.Toks.{word-kind, number-kind, kind-word, kind-number}
 use Rattle.text.proofs.Goes.{first-is, rest-is, never-empty, passed}
@@ -52,18 +52,18 @@ module _ (s u : List ℕ) (k j : Token) (same : tok-of s k ≡ tok-of u j) where
 
   -- ---- the questions
 
-  bound-same : (i : Item) (O : List Open)
-      → cond (as-type i (k .kind)) (is-found (meaning O (word-in s k))) true ≡ cond (as-type i (j .kind)) (is-found (meaning O (word-in u j))) true
-  bound-same (just n) O = refl
-  bound-same name O = refl
-  bound-same label O = refl
-  bound-same type O = word-in-is (λ x. is-found (meaning O x)) true
-  bound-same (more σ) O = refl
-  bound-same fields O = refl
-  bound-same field O = refl
-  bound-same (low κ) O = refl
-  bound-same (high κ l) O = refl
-  bound-same more-fields O = refl
+  -- a test of a name that is used as a type
+  type-same : (f : ℕ → Bool) (i : Item) → cond (as-type i (k .kind)) (f (word-in s k)) true ≡ cond (as-type i (j .kind)) (f (word-in u j)) true
+  type-same f (just n) = refl
+  type-same f name = refl
+  type-same f label = refl
+  type-same f type = word-in-is f true
+  type-same f (more σ) = refl
+  type-same f fields = refl
+  type-same f field = refl
+  type-same f (low κ) = refl
+  type-same f (high κ l) = refl
+  type-same f more-fields = refl
 
   range-same : (i : Item) → admits i (k .kind) ≡ true → number-in-range s k i ≡ number-in-range u j i
   range-same (just n) a = refl
@@ -100,11 +100,11 @@ module _ (s u : List ℕ) (k j : Token) (same : tok-of s k ≡ tok-of u j) where
 
   named-same : (st : State) → name-bound s st k ≡ name-bound u st j
   unfolding name-bound
-  named-same st = bound-same (next-item st) (open-in st)
+  named-same st = type-same (λ x. is-found (meaning (open-in st) x)) (next-item st)
 
   guarded-same : (st : State) → guarded s st k ≡ guarded u st j
   unfolding guarded
-  guarded-same st = rw kind-same
+  guarded-same st = type-same (λ x. not (unguarded (open-in st) x)) (next-item st)
 
   ranged-same : (st : State) → grammar-allows s st k ≡ true → ranged s st k ≡ ranged u st j
   unfolding grammar-allows ranged
@@ -147,7 +147,7 @@ module _ (s u : List ℕ) (k j : Token) (same : tok-of s k ≡ tok-of u j) where
   taken-same (state (just n ∷ E) O b T) a = refl
   taken-same (state (name ∷ E) O b T) a = rw (word-same a)
   taken-same (state (label ∷ E) O b T) a = rw (word-same a)
-  taken-same (state (type ∷ E) O b T) a = rw (target-same O _) (began-same E O _)
+  taken-same (state (type ∷ E) O b T) a = rw (target-same O _, began-same E O _, kind-same)
   taken-same (state (more σ ∷ E) O b T) a = rw kind-same
   taken-same (state (fields ∷ E) O b T) a = rw kind-same
   taken-same (state (field ∷ E) O b T) a = rw kind-same
