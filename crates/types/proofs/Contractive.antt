@@ -7,8 +7,8 @@ use mathlib.Core.List.{List}
 use Prim.Native.Nat.{ℕ, zero, suc}
 use native.Mathlib.Omega.{arith}
 use lib.Dec.{eqb}
-use borrow.Author.Tests.{eqb-true, eq-eqb}
-use Rattle.table.proofs.Lists.{both, never, refuted}
+use borrow.Author.Tests.{eqb-true}
+use Rattle.table.proofs.Lists.{both}
 use Rattle.text.specs.Grammar.{Way, SyntaxField, Ty, stop, var, loop, choice, Br, last, also, bare, recs-guarded}
 use Rattle.text.proofs.Asked.{recs-guarded-br}
 use Rattle.text.proofs.Exactly.{five-unguarded}

@@ -1,7 +1,7 @@
 -- What stands at the front of a type, past its recs: `end` or a choice, or a name. At the front of a closed type whose recs are guarded it is
 -- no name, and to unfold such a type is to come nearer to it.
 -- Assumes nothing.
-use mathlib.Core.Path.{_≡_, refl, sym, ap, subst, _∙_}
+use mathlib.Core.Path.{_≡_, refl, sym, ap, _∙_}
 use mathlib.Core.Bool.{Bool, true, false, not, _&&_, cond, true≢false, false≢true}
 use Prim.Native.Nat.{ℕ, suc}
 use lib.Dec.{eqb}
