@@ -1,5 +1,5 @@
--- Contractive types: while recs are guarded, each unfolding leaves fewer at the front of a closed type, so a path passes a message before
--- long. A rec that is not guarded stands somewhere in the type; substitution leaves it there, so a path comes to it, and there unfolds for ever.
+-- Contractive types. While recs are guarded, each unfolding leaves one less at the front of a closed type, so none goes on for ever without a
+-- message. A rec that is not guarded stays where it is under substitution: a path comes to it, and there unfolds for ever.
 -- Assumes nothing.
 use mathlib.Core.Path.{_≡_, refl, sym, ap, subst, _∙_}
 use mathlib.Core.Bool.{Bool, true, false, not, _&&_, cond, true≢false, false≢true}
@@ -147,31 +147,33 @@ fault-put (in-rec {n = n} {x = y} {t = t} f) x u = in-rec (go (eqb y x) (fault-p
     go false i = i
 fault-put (in-branch h f) x u = in-branch (branch-put h x u) (fault-put f x u)
 
+abbrev Faulty : Ty → Type 0
+Faulty t = (n : ℕ) × Fault n t
+
+abbrev FaultyBr : Br → Type 0
+FaultyBr bs = (n : ℕ) × (l : ℕ) × (fs : List SyntaxField) × (t : Ty) × HasBranch bs l fs t × Fault n t
+
 mutual
-  fault : (t : Ty) → recs-guarded t ≡ false → (n : ℕ) × Fault n t
+  fault : (t : Ty) → recs-guarded t ≡ false → Faulty t
   fault stop e = absurd (true≢false e)
   fault (var x) e = absurd (true≢false e)
   fault (loop x t) e = go (bare t x) refl e (λ e. fault t e)
     where
-      go : (b : Bool) → bare t x ≡ b → (not b && recs-guarded t) ≡ false → (recs-guarded t ≡ false → (n : ℕ) × Fault n t)
-          → (n : ℕ) × Fault n (loop x t)
+      go : (b : Bool) → bare t x ≡ b → (not b && recs-guarded t) ≡ false → (recs-guarded t ≡ false → Faulty t) → Faulty (loop x t)
       go true b e i = (0, at-once (binds b))
       go false b e i = let f = i e in (suc (f .0), in-rec (f .1))
   fault (choice w bs) e = let f = fault-br bs e in (suc (f .0), in-branch (f .4) (f .5))
 
-  fault-br : (bs : Br) → recs-guarded-br bs ≡ false
-      → (n : ℕ) × (l : ℕ) × (fs : List SyntaxField) × (t : Ty) × HasBranch bs l fs t × Fault n t
+  fault-br : (bs : Br) → recs-guarded-br bs ≡ false → FaultyBr bs
   fault-br (last l fs t) e = let f = fault t e in (f .0, l, fs, t, only, f .1)
   fault-br (also l fs t bs) e = go (recs-guarded t) refl e (λ e. fault t e) (λ e. fault-br bs e)
     where
-      go : (b : Bool) → recs-guarded t ≡ b → (b && recs-guarded-br bs) ≡ false → (recs-guarded t ≡ false → (n : ℕ) × Fault n t)
-          → (recs-guarded-br bs ≡ false
-          → (n : ℕ) × (l : ℕ) × (fs : List SyntaxField) × (t : Ty) × HasBranch bs l fs t × Fault n t)
-          → (n : ℕ) × (k : ℕ) × (gs : List SyntaxField) × (u : Ty) × HasBranch (also l fs t bs) k gs u × Fault n u
+      go : (b : Bool) → recs-guarded t ≡ b → (b && recs-guarded-br bs) ≡ false → (recs-guarded t ≡ false → Faulty t)
+          → (recs-guarded-br bs ≡ false → FaultyBr bs) → FaultyBr (also l fs t bs)
       go true b e i j = let f = j e in (f .0, f .1, f .2, f .3, later (f .4), f .5)
       go false b e i j = let f = i b in (f .0, l, fs, t, first, f .1)
 
--- along the path to it
+-- the path to it, and on
 abbrev Diverges : Ty → Type 0
 Diverges t = (u : Ty) × Reaches t u × Silent u
 
