@@ -1,0 +1,30 @@
+-- Document 02's examples, as checked lists, a list for each request that gives some.
+-- Assumes nothing.
+use mathlib.Core.Path.{_≡_}
+use mathlib.Core.List.{[], _∷_}
+use Prim.Native.String.{String}
+use Rattle.table.specs.View.{view}
+use Rattle.examples.specs.Twelve.{Reads, RefusedAt, table}
+use Rattle.table.specs.Table as T
+
+-- ---- request 1: names straight after rec
+
+-- a choice with one branch, A, that leads back to it
+abbrev pub A-again : T.Table
+A-again =
+    record {
+      sorts = T.sends ∷ [];
+      branches = record { owner = 0; label = 65 ∷ 0 ∷ 0 ∷ 0 ∷ 0 ∷ 0 ∷ 0 ∷ 0 ∷ []; fields = []; target = 0 } ∷ [];
+    }
+
+abbrev pub ReadsAs : String → T.Table → Type 0
+ReadsAs s t = Reads s × (view (table s) ≡ t)
+
+-- `rec X.X` is the third of the twelve
+pub record NamesAfterRec : Type 0 where
+  pub straight : ReadsAs "rec Y.+{!A().rec X.Y}" A-again
+  pub through-several : ReadsAs "rec Y.+{!A().rec X.rec Z.Y}" A-again
+  pub no-choice : RefusedAt "rec X.rec Y.X" 5 12
+  pub choice-outside : RefusedAt "+{!A().rec X.X}" 5 13
+  pub own-binder : RefusedAt "rec X.+{!A().rec X.X}" 5 19
+  pub four-first : RefusedAt "+{!A().rec X.Y}" 4 13

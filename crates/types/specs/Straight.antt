@@ -1,0 +1,27 @@
+-- A `rec` straight before a name means the state that the name means, and makes none (document 02, request 1): with it and without it,
+-- texts are read into the same table.
+-- Assumes nothing.
+use mathlib.Core.Path.{_≡_}
+use mathlib.Core.List.{List}
+use Prim.Native.Nat.{ℕ}
+use Rattle.text.specs.Grammar.{Way, SyntaxField, Ty, stop, var, loop, choice, Br, last, also, Writes}
+use Rattle.text.specs.Reading.{reads}
+
+mutual
+  -- u is t with `rec`s of other names put straight before some of its names
+  pub data Straight : Ty → Ty → Type 0 where
+    at-end : Straight stop stop
+    at-name : {y : ℕ} → Straight (var y) (var y)
+    before-name : {x y : ℕ} {u : Ty} → (x ≡ y → ⊥) → Straight (var y) u → Straight (var y) (loop x u)
+    in-rec : {x : ℕ} {t u : Ty} → Straight t u → Straight (loop x t) (loop x u)
+    in-choice : {w : Way} {bs cs : Br} → StraightBr bs cs → Straight (choice w bs) (choice w cs)
+
+  pub data StraightBr : Br → Br → Type 0 where
+    in-last : {l : ℕ} {fs : List SyntaxField} {t u : Ty} → Straight t u → StraightBr (last l fs t) (last l fs u)
+    in-also : {l : ℕ} {fs : List SyntaxField} {t u : Ty} {bs cs : Br} → Straight t u → StraightBr bs cs
+        → StraightBr (also l fs t bs) (also l fs u cs)
+
+abbrev pub StraightSame : Type 0
+StraightSame =
+    (s v : List ℕ) → reads s .question ≡ 0 → reads v .question ≡ 0 → (t u : Ty) → Writes s t → Writes v u → Straight t u
+    → reads v .table ≡ reads s .table
