@@ -1,12 +1,11 @@
 -- A `rec` straight before a name: by the name's scope it leads where the name leads, and adds no state and no branch.
 -- Assumes nothing.
 use mathlib.Core.Path.{_≡_, refl, sym, ap, ap₂, _∙_}
-use mathlib.Core.List.{List, _∷_, _++_}
+use mathlib.Core.List.{_∷_, _++_}
 use Prim.Native.Nat.{ℕ, suc, _+_}
 use lib.ListN.{length}
 use borrow.Author.Tests.{ne-eqb}
-use Rattle.table.specs.Table.{Sort, Branch, Table}
-use Rattle.text.specs.Grammar.{Ty, Br, way-sort, sorts, sorts-br, Scope, nothing-bound, bind, or-else, first-state, branch-for, branches, branches-br, table-of}
+use Rattle.text.specs.Grammar.{Ty, Br, way-sort, sorts, sorts-br, Scope, nothing-bound, bind, first-state, branch-for, branches, branches-br, table-of}
 use Rattle.text.specs.Filled.{Reading, filled}
 use Rattle.text.proofs.Exactly.{read-filled}
 use Rattle.types.specs.Straight.{Straight, at-end, at-name, before-name, in-rec, in-choice, StraightBr, in-last, in-also, StraightSame}
