@@ -57,6 +57,9 @@ fn names_mean_what_substitution_says() {
         let text = joined(&mut random, &tokens);
         assert_eq!(split(&text), tokens, "seed {seed}");
         let types = tree(&tokens).unwrap();
+        if types.tokens.end < tokens.len() {
+            continue;
+        }
         match text::read(&text) {
             Ok(table) => {
                 counts[0] += 1;

@@ -120,6 +120,16 @@ pub enum Open<'a> {
     Rec(&'a [u8]),
 }
 
+impl<'a> Open<'a> {
+    /// The name of a `rec`.
+    pub fn name(&self) -> Option<&'a [u8]> {
+        match self {
+            Open::Choice => None,
+            Open::Rec(name) => Some(name),
+        }
+    }
+}
+
 /// A type of a tree, and what is open around it, innermost last.
 #[derive(Clone, Debug, PartialEq, Eq)]
 pub struct Place<'a> {

@@ -12,9 +12,12 @@ pub(super) fn rec_of(name: &[u8]) -> [Vec<u8>; 3] {
     [b"rec".to_vec(), name.to_vec(), b".".to_vec()]
 }
 
-/// A type replaced by `rec`s with a name after them: questions 4 and 5, and texts that are read. Now and then the type stands on
-/// behind its first token.
+/// A type replaced by `rec`s with a name after them, a `rec` put before the whole text at times: questions 4 and 5, and texts that
+/// are read. Now and then the type stands on behind its first token.
 pub fn put_name_after_recs(random: &mut Random, tokens: &mut Vec<Vec<u8>>) {
+    if random.one_in(2) {
+        tokens.splice(0..0, rec_of(random.pick::<&[u8]>(&NAMES)));
+    }
     let Some(tree) = tree(tokens) else {
         return;
     };
@@ -28,8 +31,8 @@ pub fn put_name_after_recs(random: &mut Random, tokens: &mut Vec<Vec<u8>>) {
     tokens.splice(replaced, put);
 }
 
-/// `rec`s, a few or as many as may be open at a place, now and then one more, and a name: mostly that of a `rec` around, else of one
-/// of the new ones, or any.
+/// `rec`s, a few or as many as may be open at a place, now and then one more, and a name: mostly that of a `rec` around a choice,
+/// else of any around, of one of the new ones, or any.
 fn name_after_recs(random: &mut Random, place: &Place) -> Vec<Vec<u8>> {
     let room = MOST_OPEN.saturating_sub(place.around.len());
     let recs = match random.below(12) {
@@ -38,15 +41,13 @@ fn name_after_recs(random: &mut Random, place: &Place) -> Vec<Vec<u8>> {
         _ => 1 + random.below(3),
     };
     let new: Vec<&[u8]> = (0..recs).map(|_| *random.pick(&NAMES)).collect();
-    let mut around: Vec<&[u8]> = Vec::new();
-    for open in &place.around {
-        if let Open::Rec(name) = open {
-            around.push(name);
-        }
-    }
+    let outermost = |count: usize| place.around[..count].iter().filter_map(Open::name).collect::<Vec<_>>();
+    let around = outermost(place.around.len());
+    let outside = outermost(place.around.len() - place.recs_before());
     let name = match random.below(8) {
+        0..=3 if !outside.is_empty() => random.pick(&outside),
         0..=4 if !around.is_empty() => random.pick(&around),
-        0..=6 if !new.is_empty() => random.pick(&new),
+        5 | 6 if !new.is_empty() => random.pick(&new),
         _ => random.pick(&NAMES),
     };
     new.iter().flat_map(|name| rec_of(name)).chain([name.to_vec()]).collect()
