@@ -4,8 +4,9 @@
 //!     cargo run --release --bin compare -- --seed S --size N                   another seed, N times as many cases
 //!     cargo run --release --bin compare -- --seed S --kind K --case C          one case again
 //!
-//! The last line is `N passed, M failed`: a kind passes when the two agree in all of its cases; so does each question and each
-//! reason that was met a hundred times, and the run when it made 200,000 comparisons. The status is 0 only when none failed.
+//! The last line is `N passed, M failed`: a kind passes when the two agree in all of its cases; so does each question, each reason
+//! and whatever else is counted that was met a hundred times, and the run when it made 200,000 comparisons. The status is 0 only
+//! when none failed.
 
 use sojimu::compare::{Disagreement, Kind, Named, Tally, KINDS};
 use std::process::ExitCode;
