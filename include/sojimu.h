@@ -23,7 +23,7 @@
  *    2  Is the token well formed?
  *    3  Does the grammar allow it here, the end of the text included?
  *    4  Is a name used as a type bound by a `rec` around it?
- *    5  Does anything but a name follow the dot of a `rec`?
+ *    5  Does a choice stand between a name after the dot of a `rec` and its own binder, the innermost `rec` of that name?
  *    6  Is the number within its kind, and high not below low?
  *    7  Is the label new in its choice?
  *    8  Is the token within 32 states, 128 branches, 4 fields in a branch, and 16 choices and `rec`s open around one another?

@@ -1,4 +1,4 @@
-//! Every example of document 01.
+//! Every example of document 01, and those of the requests in document 02 that are built.
 
 use sojimu::second::fit::{fit, shows_no_fit, Answer};
 use sojimu::second::machine::{self, Machine, Move};
@@ -139,6 +139,29 @@ fn the_longest_text() {
     assert!(read(&text).is_ok());
     text.push(b' ');
     assert_eq!(read(&text), Err((1, 0)));
+}
+
+// Document 02, request 1: names straight after rec
+
+#[test]
+fn names_straight_after_rec() {
+    let states_and_targets = |text: &[u8]| {
+        let table = table(text);
+        (table.states.len(), table.branches.iter().map(|branch| branch.target).collect::<Vec<_>>())
+    };
+    assert_eq!(states_and_targets(b"rec Y.+{!A().rec X.Y}"), (1, vec![0]));
+    assert_eq!(states_and_targets(b"rec Y.+{!A().rec X.rec Z.Y}"), (1, vec![0]));
+    // Its own binder is the innermost.
+    assert_eq!(states_and_targets(b"rec X.+{!A().rec X.+{!B().rec Z.X}}"), (2, vec![1, 1]));
+    assert_eq!(states_and_targets(b"rec X.+{!A().rec Y.+{!B().rec Z.X}}"), (2, vec![1, 0]));
+}
+
+#[test]
+fn loops_that_pass_no_message() {
+    assert_eq!(read(b"rec X.rec Y.X"), Err((5, 12)));
+    assert_eq!(read(b"+{!A().rec X.X}"), Err((5, 13)));
+    assert_eq!(read(b"rec X.+{!A().rec X.X}"), Err((5, 19)));
+    assert_eq!(read(b"+{!A().rec X.Y}"), Err((4, 13)));
 }
 
 // Tables

@@ -6,7 +6,9 @@ use sojimu::second::machine::{saying, says};
 use sojimu::second::monitor::{due, judge, step, Side, Standing, State, Verdict};
 use sojimu::second::random::*;
 use sojimu::second::report::report;
-use sojimu::second::table::{dual, sound, Raw, Sort};
+use sojimu::second::substituted::{means, refused};
+use sojimu::second::table::{dual, sound, Raw, Sort, Table};
+use sojimu::second::tree::{split, tree};
 use sojimu::second::{message, text};
 
 /// How many of each; more with the variable `ROUNDS`.
@@ -40,6 +42,50 @@ fn blanks_mean_nothing() {
         let (one, other) = (joined(&mut random, &tokens), joined(&mut random, &tokens));
         assert_eq!(text::read(&one).unwrap(), text::read(&other).unwrap());
     }
+}
+
+#[test]
+fn names_mean_what_substitution_says() {
+    let limits = Limits { states: 8, branches: 10, fields: 1, open: 7 };
+    let (mut counts, mut moved) = ([0; 9], 0);
+    for seed in 0..rounds(4000) {
+        let mut random = Random::new(seed);
+        let mut tokens = tokens(&mut random, limits);
+        if !random.one_in(4) {
+            put_name_after_recs(&mut random, &mut tokens);
+        }
+        let text = joined(&mut random, &tokens);
+        assert_eq!(split(&text), tokens, "seed {seed}");
+        let types = tree(&tokens).unwrap();
+        if types.tokens.end < tokens.len() {
+            continue;
+        }
+        match text::read(&text) {
+            Ok(table) => {
+                counts[0] += 1;
+                assert_eq!(refused(&types), None, "seed {seed}");
+                assert!(means(&table, &types), "seed {seed}: {}", String::from_utf8_lossy(&text));
+                // A branch that leads elsewhere means something else, or a state that does the same.
+                moved += usize::from(one_target_moved(&mut random, &table).is_some_and(|other| !means(&other, &types)));
+            }
+            Err((question @ (4 | 5), _)) => {
+                counts[usize::from(question)] += 1;
+                assert_eq!(refused(&types), Some(question), "seed {seed}");
+            }
+            Err((question, _)) => counts[usize::from(question)] += 1,
+        }
+    }
+    println!("read, and refused by 1 to 8: {counts:?}; {moved} mean something else with another target");
+    assert!(counts[0] > 1000 && counts[4] > 100 && counts[5] > 100 && moved > 500, "{counts:?}, {moved}");
+}
+
+/// The table with one branch that leads to another state, if it has one.
+fn one_target_moved(random: &mut Random, table: &Table) -> Option<Table> {
+    let mut other = table.clone();
+    let b = random.below(other.branches.len());
+    let branch = other.branches.get_mut(b)?;
+    branch.target = (branch.target + 1) % table.states.len();
+    Some(other)
 }
 
 #[test]

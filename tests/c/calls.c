@@ -54,6 +54,15 @@ static void texts(void)
     CHECK(refused_at("  +{!a", 2, 5));
     CHECK(refused_at("+{!A(flag[0..1],flag[0..1],flag[0..1],flag[0..1],flag[0..1]).end}", 8, 49));
 
+    /* a name after the dot of a rec */
+    const struct sojimu_table named = table_of("rec Y.+{!A().rec X.Y}"), plain_name = table_of("rec Y.+{!A().Y}");
+    CHECK(named.states == 1 && named.branches == 1 && named.target[0] == 0 && same_tables(&named, &plain_name));
+    const struct sojimu_table inner = table_of("rec X.+{!A().rec X.+{!B().rec Z.X}}");
+    CHECK(inner.states == 2 && inner.branches == 2 && inner.target[0] == 1 && inner.target[1] == 1);
+    CHECK(refused_at("rec X.rec Y.X", 5, 12));
+    CHECK(refused_at("rec X.+{!A().rec X.X}", 5, 19));
+    CHECK(refused_at("+{!A().rec X.Y}", 4, 13));
+
     memset(long_text, ' ', sizeof long_text);
     memcpy(long_text, "end", 3);
     struct sojimu_reading r = sojimu_read(long_text, SOJIMU_TEXT);

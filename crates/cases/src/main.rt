@@ -4,7 +4,7 @@
 //   g                          the state of a fresh conversation
 //   s position standing side room message = verdict position standing output     a step from the state that the line gives
 //   u side room message = verdict position standing output                       a step from the state that the line before it left
-// What j and g want, and the lines w, which ask for the due part, are left to the tests in Rust: 28 of the file's 603 cases.
+// What j and g want, and the lines w, which ask for the due part, are left to the tests in Rust: 32 of the file's 624 cases.
 ghost use Prim.Native.Nat.{_≤_};
 use libc::STDOUT_FILENO;
 use line::Line;

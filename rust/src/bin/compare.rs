@@ -4,10 +4,11 @@
 //!     cargo run --release --bin compare -- --seed S --size N                   another seed, N times as many cases
 //!     cargo run --release --bin compare -- --seed S --kind K --case C          one case again
 //!
-//! The last line is `N passed, M failed`: a kind passes when the two agree in all of its cases; so does each question and each
-//! reason that was met a hundred times, and the run when it made 200,000 comparisons. The status is 0 only when none failed.
+//! The last line is `N passed, M failed`: a kind passes when the two agree in all of its cases; so does each question, each reason
+//! and whatever else is counted that was met a hundred times, and the run when it made 200,000 comparisons. The status is 0 only
+//! when none failed.
 
-use sojimu::compare::{Disagreement, Kind, Tally, KINDS};
+use sojimu::compare::{Disagreement, Kind, Named, Tally, KINDS};
 use std::process::ExitCode;
 use std::time::Instant;
 
@@ -118,6 +119,9 @@ fn whole(options: &Options) -> usize {
     demand("fails".into(), tally.fails, OFTEN);
     demand("by a high one".into(), tally.high, OFTEN);
     demand("most moves".into(), tally.most_moves as u64, OFTEN);
+    for (what, count) in Named::ALL.into_iter().zip(tally.named) {
+        demand(what.into(), count, OFTEN);
+    }
     demand("comparisons".into(), tally.comparisons, ENOUGH);
     println!("{passed} passed, {failed} failed");
     failed

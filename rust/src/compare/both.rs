@@ -1,9 +1,11 @@
 //! One input in the forms of both implementations, and the answers of the second in the types of the first.
 
+use super::{texts, Tally};
 use crate::proved::ffi;
 use crate::proved::{Party, Question, Reason, Standing, State, Table, Verdict};
 use crate::second::monitor as second;
 use crate::second::table::{self, Raw};
+use crate::second::text;
 
 /// A table as words, and the same as the second implementation has it; there, words that are not sound are the empty table.
 pub struct Both {
@@ -14,6 +16,13 @@ pub struct Both {
 impl Both {
     pub fn of(raw: &Raw) -> Both {
         Both { proved: Table::from(raw), second: raw.table() }
+    }
+
+    /// A text as each of the two reads it; where they differ, how.
+    pub fn read(bytes: &[u8], tally: &mut Tally) -> Result<Both, String> {
+        texts::read(bytes, tally)?;
+        let proved = Table::read(bytes).unwrap_or(Table::empty());
+        Ok(Both { proved, second: text::read(bytes).unwrap_or_default() })
     }
 }
 

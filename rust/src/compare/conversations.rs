@@ -1,15 +1,20 @@
 //! Whole conversations, through loops, with messages that come early, damaged or forbidden, and output buffers that are too short.
 
 use super::both::Both;
+use super::names::by_branch;
 use super::steps::{due_of, step_of, Given};
-use super::{Outcome, Tally};
+use super::{Named, Outcome, Tally};
 use crate::proved::State;
 use crate::second::monitor::{turn, Side};
-use crate::second::random::{any_message, damaged_message, endless_table, faulty_message, spoken, with_noise, Random};
+use crate::second::random::{
+    any_message, damaged_message, endless_table, faulty_message, joined, named_tokens, spoken, with_noise, Limits, Random,
+};
 use crate::second::table::Raw;
 
 /// How many messages are forwarded in one conversation.
 const MESSAGES: usize = 10_000;
+/// How many are in those over a text.
+const FEW_MESSAGES: usize = 50;
 
 /// One conversation. At each message others are tried as well: such as are refused go to the state itself, such as are blamed to a
 /// copy of it, so that the conversation goes on. At its end one is forbidden in earnest, and more come after it.
@@ -29,6 +34,30 @@ pub fn case(random: &mut Random, tally: &mut Tally) -> Outcome {
         state = step_of(&given, &both, tally)?;
     }
     forbidden(random, &both, state, 20, tally)
+}
+
+/// Conversations over a text, mostly with names after the dot of a `rec`, which each of the two has read for itself. At an end another
+/// begins.
+pub fn of_text(random: &mut Random, tally: &mut Tally) -> Outcome {
+    let limits = Limits { open: 6, ..Limits::any(random) };
+    let tokens = named_tokens(random, limits);
+    let text = joined(random, &tokens);
+    let both = Both::read(&text, tally)?;
+    let through = by_branch(&text);
+    let mut state = State::fresh();
+    for _ in 0..FEW_MESSAGES {
+        state = others(random, &both, state, tally)?;
+        let given = allowed(random, &both, state);
+        let position = usize::from(state.position);
+        let own = both.second.branches_of(position);
+        let said = own.iter().find(|&&b| given.message.starts_with(&both.second.branches[b].label));
+        state = step_of(&given, &both, tally)?;
+        match said {
+            Some(&branch) => tally.name(Named::Spoken, through[branch]),
+            None => state = State::fresh(),
+        }
+    }
+    forbidden(random, &both, state, 2, tally)
 }
 
 /// What the protocol allows at a state, with room enough; at an end, any message.

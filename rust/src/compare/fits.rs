@@ -1,11 +1,12 @@
 //! Fit checks. Counts of pairs and of moves are compared; which moves is left free, so they are played on the document's machine.
 
 use super::both::Both;
-use super::{show, Outcome, Tally};
+use super::names::has;
+use super::{show, Named, Outcome, Tally};
 use crate::proved::{ffi, Fitting, Question};
 use crate::second::brute::explore;
 use crate::second::fit::{fit, shows_no_fit, Answer};
-use crate::second::random::{cycle_pair, damaged_table, raised, table_pair, with_noise, Random, COLUMNS};
+use crate::second::random::{cycle_pair, damaged_table, named_pair, raised, table_pair, with_noise, Random, COLUMNS};
 use crate::second::table::{Raw, Table};
 
 /// A list's entries before the call.
@@ -15,16 +16,29 @@ const UNTOUCHED: u16 = 0xEEEE;
 pub fn small(random: &mut Random, tally: &mut Tally) -> Outcome {
     let (device, protocol) = related(random, 5, 7);
     let answer = pair(random, &device, &protocol, tally)?;
-    let found = explore(&device, &protocol);
+    explored(answer, &Both::of(&Raw::of(&device)), &Both::of(&Raw::of(&protocol)), tally)
+}
+
+/// Small texts, mostly with names after the dot of a `rec`, which each of the two has read for itself.
+pub fn of_texts(random: &mut Random, tally: &mut Tally) -> Outcome {
+    let (device, protocol) = named_pair(random);
+    let named = has(&device) || has(&protocol);
+    let (device, protocol) = (Both::read(&device, tally)?, Both::read(&protocol, tally)?);
+    let answer = check(&device, &protocol, device.second.states.len() * protocol.second.states.len(), tally)?;
+    tally.name(if matches!(answer, Fitting::Fits { .. }) { Named::Fits } else { Named::Fails }, named);
+    explored(answer, &device, &protocol, tally)
+}
+
+/// The answer is what the whole machine shows.
+fn explored(answer: Fitting, device: &Both, protocol: &Both, tally: &mut Tally) -> Outcome {
+    let found = explore(&device.second, &protocol.second);
     let explored = match answer {
         Fitting::Refused(_) => return Ok(()),
         Fitting::Fits { pairs } => (true, 0, pairs),
         // The exploration goes on after a failure, and so meets pairs that the check need not.
         Fitting::Fails { moves, .. } => (false, moves, found.pairs),
     };
-    tally.same("fit, explored", explored, (found.safe, found.fewest, found.pairs), || {
-        show_pair(&Both::of(&Raw::of(&device)), &Both::of(&Raw::of(&protocol)))
-    })
+    tally.same("fit, explored", explored, (found.safe, found.fewest, found.pairs), || show_pair(device, protocol))
 }
 
 /// Tables of any size.

@@ -9,6 +9,7 @@ mod both;
 mod conversations;
 mod fits;
 mod messages;
+mod names;
 mod reports;
 mod show;
 mod steps;
@@ -16,6 +17,7 @@ mod tables;
 mod tally;
 mod texts;
 
+pub use names::Named;
 pub use tally::Tally;
 
 use crate::second::random::Random;
@@ -33,15 +35,17 @@ pub struct Kind {
 }
 
 /// Every kind of comparison.
-pub const KINDS: [Kind; 9] = [
+pub const KINDS: [Kind; 11] = [
     Kind { name: "texts", cases: 100_000, run: texts::case },
     Kind { name: "tables", cases: 1_600, run: tables::case },
     Kind { name: "messages", cases: 12_000, run: messages::case },
     Kind { name: "steps", cases: 40_000, run: steps::case },
     Kind { name: "conversations", cases: 20, run: conversations::case },
+    Kind { name: "text-talks", cases: 1_000, run: conversations::of_text },
     Kind { name: "small-fits", cases: 21_000, run: fits::small },
     Kind { name: "large-fits", cases: 4_000, run: fits::large },
     Kind { name: "long-fits", cases: 2_200, run: fits::long },
+    Kind { name: "text-fits", cases: 4_000, run: fits::of_texts },
     Kind { name: "reports", cases: 6_000, run: reports::case },
 ];
 

@@ -1,6 +1,6 @@
 //! What was compared.
 
-use super::Outcome;
+use super::{Named, Outcome};
 use crate::proved::{Question, Verdict};
 use std::fmt::Debug;
 
@@ -29,6 +29,8 @@ pub struct Tally {
     pub high: u64,
     /// The most moves that it took to show that one does not.
     pub most_moves: usize,
+    /// What texts have of names after the dot of a `rec`, in the order of [`Named`].
+    pub named: [u64; Named::ALL.len()],
 }
 
 impl Tally {
@@ -37,6 +39,7 @@ impl Tally {
         self.comparisons += other.comparisons;
         self.questions.iter_mut().zip(other.questions).for_each(|(mine, its)| *mine += its);
         self.reasons.iter_mut().zip(other.reasons).for_each(|(mine, its)| *mine += its);
+        self.named.iter_mut().zip(other.named).for_each(|(mine, its)| *mine += its);
         self.forwarded += other.forwarded;
         self.broken += other.broken;
         self.wide += other.wide;
@@ -67,6 +70,11 @@ impl Tally {
         if let Some(Question(number)) = question {
             self.questions[usize::from(number)] += 1;
         }
+    }
+
+    /// Counts what has a name after the dot of a `rec`, if it has.
+    pub(super) fn name(&mut self, what: Named, has: bool) {
+        self.named[what as usize] += u64::from(has);
     }
 
     /// Counts a verdict.

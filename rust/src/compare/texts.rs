@@ -1,7 +1,7 @@
 //! Texts: legal, nearly legal, with tokens of any length, and any bytes.
 
 use super::show::{self, Columns};
-use super::{Outcome, Tally};
+use super::{names, Outcome, Tally};
 use crate::proved::ffi;
 use crate::proved::{Question, Refusal, Table};
 use crate::second::random::{any_text, Random};
@@ -18,7 +18,7 @@ pub fn case(random: &mut Random, tally: &mut Tally) -> Outcome {
 }
 
 /// What the wrapper says, and every number of what is given back: the place is 0, or the table empty, where it does not apply.
-fn read(bytes: &[u8], tally: &mut Tally) -> Outcome {
+pub fn read(bytes: &[u8], tally: &mut Tally) -> Outcome {
     let (question, at, table) = match text::read(bytes) {
         Ok(table) => (0, 0, Raw::of(&table)),
         Err((question, at)) => (question, at, Raw::empty()),
@@ -31,6 +31,7 @@ fn read(bytes: &[u8], tally: &mut Tally) -> Outcome {
     let proved = Table::read(bytes).map(Columns);
     let (told, given) = ffi::read(bytes);
     tally.asked(proved.as_ref().err().map(|refusal| refusal.question));
+    names::count(bytes, question, at, tally);
     let proved = (proved, told.question, told.at, Columns(given));
     tally.same("read", proved, (second, question.into(), at as u32, table), || show::bytes("text", bytes))
 }

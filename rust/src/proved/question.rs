@@ -31,7 +31,7 @@ impl Question {
             2 => "is the token well formed?",
             3 => "does the grammar allow it here?",
             4 => "is the name bound by a rec around it?",
-            5 => "does anything but a name follow the dot of a rec?",
+            5 => "does a choice stand between the name after the dot of a rec and its own binder?",
             6 => "is the number within its kind, and high not below low?",
             7 => "is the label new in its choice?",
             8 => "is the token within the limits?",

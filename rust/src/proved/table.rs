@@ -72,6 +72,15 @@ impl Table {
     /// let refusal = Table::read(b"+{!A(int[5..4]).end}").unwrap_err();
     /// assert_eq!((refusal.question, refusal.at), (Question(6), 12));
     /// ```
+    ///
+    /// A `rec` with a name after its dot means the state that the name means:
+    ///
+    /// ```
+    /// # use sojimu::Table;
+    /// let table = Table::read(b"rec Y.+{!A().rec X.Y}")?;
+    /// assert_eq!((table.states, table.branches, table.target[0]), (1, 1, 0));
+    /// # Ok::<(), sojimu::Refusal>(())
+    /// ```
     #[inline]
     pub fn read(text: &[u8]) -> Result<Table, Refusal> {
         let (told, table) = ffi::read(text);

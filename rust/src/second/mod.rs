@@ -1,4 +1,5 @@
-//! A second implementation of document 01, written from the document alone, to be checked against it line by line.
+//! A second implementation of document 01, as the requests of document 02 amend it, written from the documents alone, to be
+//! checked against them line by line.
 //!
 //! Each module is a section of the document and uses its names. A refusal is the number of the question that got a no.
 //! Every entry that takes a table asks question 9 first, and no entry panics, whatever it is given. The definitions below the
@@ -25,5 +26,7 @@ pub mod message;
 pub mod monitor;
 pub mod random;
 pub mod report;
+pub mod substituted;
 pub mod table;
 pub mod text;
+pub mod tree;

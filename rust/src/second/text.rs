@@ -1,4 +1,4 @@
-//! Protocol texts: tokens, grammar, and questions 1 to 8 in the order of the document.
+//! Protocol texts: tokens, grammar, and questions 1 to 8 in the order of the document, 5 as request 1 of document 02 amends it.
 
 use super::table::{Branch, Field, Kind, Label, Sort, Table, LABEL_BYTES, MOST_BRANCHES, MOST_FIELDS, MOST_STATES};
 
@@ -15,8 +15,8 @@ pub fn read(text: &[u8]) -> Result<Table, Refusal> {
     if text.len() > LONGEST_PROTOCOL {
         return Err((1, 0));
     }
-    let mut reader = Reader { text, at: 0, table: Table::empty(), bound: Vec::new(), open: 0 };
-    reader.read_type(false)?;
+    let mut reader = Reader { text, at: 0, table: Table::empty(), recs: Vec::new(), choices: 0 };
+    reader.read_type()?;
     match reader.token()? {
         (Token::EndOfText, _) => Ok(reader.table),
         (_, place) => Err((3, place)),
@@ -42,15 +42,24 @@ enum Token<'a> {
     EndOfText,
 }
 
+/// A `rec` around a place.
+struct Rec {
+    name: Label,
+    /// The first state of its body.
+    first: usize,
+    /// How many choices stand around the `rec` itself.
+    choices: usize,
+}
+
 struct Reader<'a> {
     text: &'a [u8],
     /// Where the next token, or blanks before it, begins.
     at: usize,
     table: Table,
-    /// The names of the `rec`s around this place, innermost last, each with the first state of its body.
-    bound: Vec<(Label, usize)>,
-    /// The choices and `rec`s around this place.
-    open: usize,
+    /// The `rec`s around this place, innermost last.
+    recs: Vec<Rec>,
+    /// How many choices stand around this place.
+    choices: usize,
 }
 
 impl<'a> Reader<'a> {
@@ -113,34 +122,41 @@ impl<'a> Reader<'a> {
     }
 
     /// "type: `end`, or a name, or `rec` name `.` type, or `+{` send branches `}`, or `&{` receive branches `}`."
-    /// Gives the first state of the type. `after_rec`: it follows the dot of a `rec`.
-    fn read_type(&mut self, after_rec: bool) -> Result<usize, Refusal> {
+    /// Gives the state that the type means.
+    fn read_type(&mut self) -> Result<usize, Refusal> {
         let (token, place) = self.token()?;
         match token {
             Token::Word(b"end") => self.state(Sort::End, place),
-            Token::Name(name) => {
-                let innermost = self.bound.iter().rev().find(|(bound, _)| *bound == name);
-                let &(_, first) = innermost.ok_or((4, place))?;
-                if after_rec {
-                    return Err((5, place));
-                }
-                Ok(first)
-            }
-            Token::Word(b"rec") => {
-                self.open_one(place)?;
-                let (name, _) = self.expect_name()?;
-                self.expect(Token::Dot)?;
-                // No name follows (question 5), so the first state of the body is the next that is numbered.
-                self.bound.push((name, self.table.states.len()));
-                let first = self.read_type(true)?;
-                self.bound.pop();
-                self.open -= 1;
-                Ok(first)
-            }
+            Token::Name(name) => self.meant(name, place),
+            Token::Word(b"rec") => self.rec(place),
             Token::Sign(b'+') => self.choice(Sort::Sends, b'!', place),
             Token::Sign(b'&') => self.choice(Sort::Receives, b'?', place),
             _ => Err((3, place)),
         }
+    }
+
+    /// "A name means the first state of the body of the innermost `rec` of that name around it." Asks 4, whether there is one, and 5,
+    /// as document 02 has it: "A name after a `rec`'s dot is now accepted when a choice stands between its own binder and it." Of a
+    /// name after a branch's dot that choice is the branch's own.
+    fn meant(&self, name: Label, place: usize) -> Result<usize, Refusal> {
+        let own = self.recs.iter().rev().find(|rec| rec.name == name).ok_or((4, place))?;
+        if self.choices == own.choices {
+            return Err((5, place));
+        }
+        Ok(own.first)
+    }
+
+    /// What follows `rec`: name `.` type. It makes no state. Where its body is a name, "the `rec` then means the state that the name
+    /// means".
+    fn rec(&mut self, place: usize) -> Result<usize, Refusal> {
+        self.open(place)?;
+        let (name, _) = self.expect_name()?;
+        self.expect(Token::Dot)?;
+        // A name can mean this `rec` only from within a choice in its body, of which the outermost is the next to be numbered.
+        self.recs.push(Rec { name, first: self.table.states.len(), choices: self.choices });
+        let meant = self.read_type()?;
+        self.recs.pop();
+        Ok(meant)
     }
 
     /// Question 8 of the states, "counted at `+`, `&` or `end`", and the number of the new one.
@@ -153,19 +169,19 @@ impl<'a> Reader<'a> {
     }
 
     /// Question 8 of "what is open", counted "at `+`, `&` or `rec`".
-    fn open_one(&mut self, place: usize) -> Result<(), Refusal> {
-        if self.open == MOST_OPEN {
+    fn open(&self, place: usize) -> Result<(), Refusal> {
+        if self.choices + self.recs.len() == MOST_OPEN {
             return Err((8, place));
         }
-        self.open += 1;
         Ok(())
     }
 
     /// What follows `+` or `&`: `{`, at least one branch, separated by `,`, and `}`.
     fn choice(&mut self, sort: Sort, mark: u8, place: usize) -> Result<usize, Refusal> {
-        self.open_one(place)?;
+        self.open(place)?;
         let owner = self.state(sort, place)?;
         self.expect(Token::Sign(b'{'))?;
+        self.choices += 1;
         loop {
             self.branch(owner, mark)?;
             match self.token()? {
@@ -174,7 +190,7 @@ impl<'a> Reader<'a> {
                 (_, place) => return Err((3, place)),
             }
         }
-        self.open -= 1;
+        self.choices -= 1;
         Ok(owner)
     }
 
@@ -197,7 +213,7 @@ impl<'a> Reader<'a> {
         self.expect(Token::Dot)?;
         let number = self.table.branches.len();
         self.table.branches.push(Branch { owner, label, fields, target: 0 });
-        self.table.branches[number].target = self.read_type(false)?;
+        self.table.branches[number].target = self.read_type()?;
         Ok(())
     }
 

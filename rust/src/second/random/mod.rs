@@ -4,11 +4,13 @@
 //! is so by construction; what is damaged may still be legal, and is to be asked.
 
 mod messages;
+mod names;
 mod pairs;
 mod tables;
 mod texts;
 
 pub use messages::*;
+pub use names::*;
 pub use pairs::*;
 pub use tables::*;
 pub use texts::*;

@@ -1,8 +1,11 @@
 //! Pairs of related tables and texts for the fit check.
 
+use super::names::NAMES;
 use super::tables::branch_for;
 use super::texts::STRANGE_TOKENS;
-use super::{field, fields, joined, label, number_of, sound_table, tokens, Limits, Random, LABELS};
+use super::{
+    field, fields, joined, label, named_tokens, number_of, put_name_after_recs, sound_table, tokens, Limits, Random, LABELS,
+};
 use crate::second::table::{sound, Branch, Field, Kind, Sort, Table, MOST_BRANCHES, MOST_FIELDS, MOST_STATES};
 use crate::second::text::{read, LONGEST_PROTOCOL};
 
@@ -123,7 +126,18 @@ pub fn text_pair(random: &mut Random) -> (Vec<u8>, Vec<u8>) {
             break tokens;
         }
     };
-    let mut device = protocol.clone();
+    related_texts(random, &protocol)
+}
+
+/// The same of small texts, mostly with names after the dot of a `rec`.
+pub fn named_pair(random: &mut Random) -> (Vec<u8>, Vec<u8>) {
+    let protocol = named_tokens(random, Limits { states: 5, branches: 7, fields: 2, open: 6 });
+    related_texts(random, &protocol)
+}
+
+/// A device's text that is the protocol's with a few tokens changed, or a type replaced by a name; and the protocol's.
+fn related_texts(random: &mut Random, protocol: &[Vec<u8>]) -> (Vec<u8>, Vec<u8>) {
+    let mut device = protocol.to_vec();
     let changes = random.below(4);
     let mut made = 0;
     for _ in 0..60 {
@@ -131,18 +145,27 @@ pub fn text_pair(random: &mut Random) -> (Vec<u8>, Vec<u8>) {
             break;
         }
         let mut new = device.clone();
-        let place = random.below(new.len());
-        new[place] = match new[place].first() {
-            Some(byte) if byte.is_ascii_digit() || *byte == b'-' => random.between(-2, 101).to_string().into_bytes(),
-            Some(byte) if byte.is_ascii_uppercase() => random.pick(&LABELS).to_vec(),
-            _ => random.pick(&STRANGE_TOKENS).to_vec(),
-        };
-        if new[place] != device[place] && read(&joined(random, &new)).is_ok() {
+        change_tokens(random, &mut new);
+        if new != device && read(&joined(random, &new)).is_ok() {
             device = new;
             made += 1;
         }
     }
-    (joined(random, &device), joined(random, &protocol))
+    (joined(random, &device), joined(random, protocol))
+}
+
+/// One token changed: mostly a number to a number, a name or label to another; or a type replaced by a name after `rec`s.
+fn change_tokens(random: &mut Random, tokens: &mut Vec<Vec<u8>>) {
+    if random.one_in(8) {
+        return put_name_after_recs(random, tokens);
+    }
+    let place = random.below(tokens.len());
+    tokens[place] = match tokens[place].first() {
+        Some(byte) if byte.is_ascii_digit() || *byte == b'-' => random.between(-2, 101).to_string().into_bytes(),
+        Some(byte) if byte.is_ascii_uppercase() && random.one_in(2) => random.pick(&NAMES).to_vec(),
+        Some(byte) if byte.is_ascii_uppercase() => random.pick(&LABELS).to_vec(),
+        _ => random.pick(&STRANGE_TOKENS).to_vec(),
+    };
 }
 
 /// The table with one range that reaches one number higher where it sends, one less high where it takes: what then fails, fails

@@ -1,11 +1,9 @@
 //! Texts: legal, nearly legal, and any.
 
+use super::names::{put_name_after_recs, rec_of, NAMES};
 use super::{fields, label, Random};
 use crate::second::table::{Kind, Label, MOST_BRANCHES, MOST_FIELDS, MOST_STATES};
 use crate::second::text::{LONGEST_PROTOCOL, MOST_OPEN};
-
-/// Names for `rec`s; few, so that one often hides another.
-const NAMES: [&[u8]; 7] = [b"X", b"Y", b"Z", b"A", b"Xx", b"Abcdefgh", b"Loop9"];
 
 /// How far a text grows.
 #[derive(Clone, Copy, Debug)]
@@ -41,11 +39,11 @@ pub fn tokens(random: &mut Random, limits: Limits) -> Vec<Vec<u8>> {
         limits,
         tokens: Vec::new(),
         bound: Vec::new(),
-        open: 0,
+        choices: 0,
         states_left: limits.states.max(1) - 1,
         branches_left: limits.branches,
     };
-    growth.grow(false, true);
+    growth.grow(true);
     growth.tokens
 }
 
@@ -55,8 +53,9 @@ struct Growth<'a> {
     random: &'a mut Random,
     limits: Limits,
     tokens: Vec<Vec<u8>>,
-    bound: Vec<Vec<u8>>,
-    open: usize,
+    /// The names of the `rec`s around, each with how many choices are around it.
+    bound: Vec<(Vec<u8>, usize)>,
+    choices: usize,
     states_left: usize,
     branches_left: usize,
 }
@@ -66,14 +65,19 @@ impl Growth<'_> {
         self.tokens.push(token.to_vec());
     }
 
-    fn grow(&mut self, after_rec: bool, at_start: bool) {
-        let may_open = self.open < self.limits.open;
+    /// How many choices and `rec`s may still be opened.
+    fn room(&self) -> usize {
+        self.limits.open.saturating_sub(self.choices + self.bound.len())
+    }
+
+    fn grow(&mut self, at_start: bool) {
+        let may_open = self.room() > 0;
         let may_choose = may_open && self.branches_left > 0 && (self.states_left > 0 || !self.bound.is_empty());
         let wish = if at_start { self.random.below(7) } else { self.random.below(10) };
         match wish {
             0..=4 if may_choose => self.choice(),
             5 | 6 if may_open => self.rec(),
-            7 | 8 if !after_rec && !self.bound.is_empty() => {
+            7 | 8 if !self.names().is_empty() => {
                 self.states_left += 1;
                 self.name();
             }
@@ -81,21 +85,41 @@ impl Growth<'_> {
         }
     }
 
+    /// The names that may stand here: those with a choice inside the innermost `rec` of that name.
+    fn names(&self) -> Vec<Vec<u8>> {
+        let mut names = Vec::new();
+        let mut hidden: Vec<&[u8]> = Vec::new();
+        for (name, choices) in self.bound.iter().rev() {
+            if *choices < self.choices && !hidden.contains(&name.as_slice()) {
+                names.push(name.clone());
+            }
+            hidden.push(name);
+        }
+        names
+    }
+
+    /// A name that may stand here, at times after `rec`s of other names: a few, or as many as may be open.
     fn name(&mut self) {
-        let name = self.random.pick(&self.bound).clone();
+        let name = self.random.pick(&self.names()).clone();
+        let recs = match self.random.below(12) {
+            0 => MOST_OPEN,
+            1..=3 => 1 + self.random.below(3),
+            _ => 0,
+        };
+        let others: Vec<&[u8]> = NAMES.into_iter().filter(|other| *other != name).collect();
+        for _ in 0..recs.min(self.room()) {
+            let other: &&[u8] = self.random.pick(&others);
+            self.tokens.extend(rec_of(other));
+        }
         self.put(&name);
     }
 
     fn rec(&mut self) {
         let name = self.random.pick(&NAMES).to_vec();
-        self.put(b"rec");
-        self.put(&name);
-        self.put(b".");
-        self.open += 1;
-        self.bound.push(name);
-        self.grow(true, false);
+        self.tokens.extend(rec_of(&name));
+        self.bound.push((name, self.choices));
+        self.grow(false);
         self.bound.pop();
-        self.open -= 1;
     }
 
     fn choice(&mut self) {
@@ -116,7 +140,7 @@ impl Growth<'_> {
         let (sign, mark): (&[u8], &[u8]) = if self.random.one_in(2) { (b"+", b"!") } else { (b"&", b"?") };
         self.put(sign);
         self.put(b"{");
-        self.open += 1;
+        self.choices += 1;
         let mut labels = Vec::new();
         for (i, promise) in promised.into_iter().enumerate() {
             if i > 0 {
@@ -129,12 +153,12 @@ impl Growth<'_> {
             self.fields();
             self.put(b".");
             if promise {
-                self.grow(false, false);
+                self.grow(false);
             } else {
                 self.name();
             }
         }
-        self.open -= 1;
+        self.choices -= 1;
         self.put(b"}");
     }
 
@@ -268,15 +292,15 @@ pub(super) const STRANGE_TOKENS: [&[u8]; 62] = [
 const TELLING_BYTES: &[u8] = b"+&{}()[],!?..--0019AZaz \n\t#endrcitxflgXYB_\0\x7F\x80\xFF";
 
 /// A text that is legal but for one change (which may leave it legal): a byte changed, dropped, inserted or doubled; a token
-/// replaced by any or by one of its class, dropped, inserted, doubled, or exchanged with another; cut off; grown beyond the limits;
-/// or filled up with blanks to about 8,192 bytes.
+/// replaced by any or by one of its class, dropped, inserted, doubled, or exchanged with another; a type replaced by a name after
+/// `rec`s; cut off; grown beyond the limits; or filled up with blanks to about 8,192 bytes.
 pub fn nearly_legal_text(random: &mut Random) -> Vec<u8> {
     let limits = Limits::any(random);
     let mut tokens = tokens(random, limits);
     let place = random.below(tokens.len());
     match random.below(16) {
         0 | 1 => tokens[place] = random.pick(&STRANGE_TOKENS).to_vec(),
-        2 => put_name_after_rec(random, &mut tokens),
+        2 | 13 => put_name_after_recs(random, &mut tokens),
         9..=12 => replace_by_its_class(random, &mut tokens),
         3 => {
             tokens.remove(place);
@@ -320,15 +344,6 @@ fn replace_by_its_class(random: &mut Random, tokens: &mut [Vec<u8>]) {
     }
 }
 
-/// What follows the dot of a `rec` replaced by a name: questions 4 and 5.
-fn put_name_after_rec(random: &mut Random, tokens: &mut [Vec<u8>]) {
-    let bodies: Vec<usize> = (3..tokens.len()).filter(|&place| tokens[place - 3] == b"rec").collect();
-    if !bodies.is_empty() {
-        let place = *random.pick(&bodies);
-        tokens[place] = if random.one_in(3) { random.pick(&NAMES).to_vec() } else { tokens[place - 2].clone() };
-    }
-}
-
 /// A text that may pass one of the limits of question 8 by a little.
 fn beyond_limits(random: &mut Random) -> Vec<u8> {
     let mut limits = Limits::DOCUMENT;
@@ -342,14 +357,15 @@ fn beyond_limits(random: &mut Random) -> Vec<u8> {
     joined(random, &tokens)
 }
 
-/// Choices and `rec`s around one another, so many.
+/// Choices and `rec`s around one another, so many, and an `end` or a name within.
 fn deep(random: &mut Random, open: usize) -> Vec<Vec<u8>> {
     let mut before: Vec<&[u8]> = Vec::new();
     let mut after: Vec<&[u8]> = Vec::new();
     for _ in 0..open {
-        match random.below(3) {
+        match random.below(4) {
             0 => before.extend([b"rec".as_slice(), b"X", b"."]),
-            1 => {
+            1 => before.extend([b"rec".as_slice(), b"Y", b"."]),
+            2 => {
                 before.extend([b"+".as_slice(), b"{", b"!", b"A", b"(", b")", b"."]);
                 after.push(b"}");
             }
@@ -359,7 +375,7 @@ fn deep(random: &mut Random, open: usize) -> Vec<Vec<u8>> {
             }
         }
     }
-    before.push(b"end");
+    before.push(*random.pick::<&[u8]>(&[b"end", b"X", b"Y"]));
     before.into_iter().chain(after).map(<[u8]>::to_vec).collect()
 }
 
