@@ -2,7 +2,7 @@
 -- Assumes nothing.
 use mathlib.Core.Path.{_≡_, refl, sym, ap, subst, _∙_}
 use mathlib.Core.Logic.{_↔_}
-use mathlib.Core.List.{List}
+use mathlib.Core.List.{List, map}
 use mathlib.Core.Option.{Option, none, some}
 use Prim.Native.Nat.{ℕ, _*_}
 use lib.ListN.{length}
@@ -24,13 +24,15 @@ use Rattle.types.proofs.Stands.{Alike, neither, each}
 use Rattle.types.proofs.Agree.{Stands-for, Rules-alike}
 use Rattle.types.proofs.Texts.{text-rules}
 use Rattle.types.proofs.Headline.{type-demand}
+use Rattle.monitor.specs.Conversation.{Event}
+use Rattle.monitor.proofs.Watching.{batches-watched}
 use Rattle.fit.specs.Machine.{Safe, Unsafe}
 use Rattle.fit.specs.Answer.{Answer, refused, fits, fails, fit-questions, Demand}
 use Rattle.fit.proofs.Demand.{demand-three}
 use Rattle.together.proofs.Unblamed.{fits-unblamed}
 use Rattle.report.specs.Report.{Reported}
 use Rattle.report.proofs.Exactly.{reports-fit, reports-no-fit}
-use Rattle.demands.specs.Demands.{TextOf, ReadOfTexts, OneType, DemandTwoOfTexts, DemandThreeOfTexts, ReportsOfTexts, UnblamedOfTexts}
+use Rattle.demands.specs.Demands.{TextOf, ReadOfTexts, OneType, DemandTwoOfTexts, BatchesOfTexts, DemandThreeOfTexts, ReportsOfTexts, UnblamedOfTexts}
 use Rattle.demands.proofs.Likeness.{alike-itself, safe-like, unsafe-like}
 
 -- ---- one text
@@ -57,6 +59,16 @@ one-type s t u x y = syntax-unique s t u (writes s t x) (writes s u y)
 
 pub demand-two-of-texts : DemandTwoOfTexts
 demand-two-of-texts s t x sent = type-demand s (is-read s t x) t (writes s t x) sent
+
+pub batches-of-texts : BatchesOfTexts
+batches-of-texts s t x calls =
+    let b = batches-watched (reads s .table) (read-sound s (is-read s t x)) calls in
+    record {
+      events = b .events;
+      batches = b .batches;
+      conversing = b .conversing;
+      watched = demand-two-of-texts s t x (map (λ (e : Event). e .sent) (b .events));
+    }
 
 -- ---- two texts
 

@@ -12,6 +12,7 @@ use Rattle.text.specs.Reading.{reads}
 use Rattle.spelling.specs.Spelling.{Spelt}
 use Rattle.types.specs.Types.{type-rules}
 use Rattle.monitor.specs.Conversation.{Sent, Watched}
+use Rattle.monitor.specs.Batches.{Left, WatchedBatches}
 use Rattle.fit.specs.Machine.{Safe, Unsafe}
 use Rattle.fit.specs.Answer.{Answer, fits, fails, Answered}
 use Rattle.together.specs.Unblamed.{Keeps, Unblamed}
@@ -33,6 +34,10 @@ OneType = (s : List ℕ) (t u : Ty) → TextOf s t → TextOf s u → t ≡ u
 -- demand 2: in every conversation each message is met in its place, by the rules of the type
 abbrev pub DemandTwoOfTexts : Type 0
 DemandTwoOfTexts = (s : List ℕ) (t : Ty) → TextOf s t → (sent : List Sent) → Watched (type-rules t) (reads s .table) sent
+
+-- and so by batches, each taking what is due of whatever waits: their steps are one conversation
+abbrev pub BatchesOfTexts : Type 0
+BatchesOfTexts = (s : List ℕ) (t : Ty) → TextOf s t → (calls : List Left) → WatchedBatches (type-rules t) (reads s .table) calls
 
 -- demand 3: with room for the product the fit check passes exactly when no list of moves on the two types' machine ends with the device
 -- blamed or the machine jammed, and fails exactly when some list does

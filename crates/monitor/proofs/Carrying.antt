@@ -1,26 +1,29 @@
 -- What a branch of a sound table holds is well formed: its label is legal, and a number within its range is one of the kind.
 -- Assumes nothing.
-use mathlib.Core.Path.{_≡_, sym, ap, _∙_}
+use mathlib.Core.Path.{_≡_, sym, ap, ap₂, _∙_}
 use mathlib.Core.Bool.{true, not, _&&_, false≢true}
 use mathlib.Core.List.{List}
 use Prim.Native.Nat.{ℕ, zero, suc, _+_, _*_, _≤_, _<_}
 use native.Mathlib.Nat.{le-refl}
 use native.Mathlib.Omega.{arith}
 use lib.ListN.{length, getD, take}
+use lib.Seq.{take-take, take-length}
 use lib.Dec.{leb, ltb, eqb}
-use borrow.Author.Tests.{ltb-true, lt-ltb, leb-true, le-leb, eqb-true, eq-eqb}
+use borrow.Author.Tests.{ltb-true, lt-ltb, leb-true, le-leb, eqb-true}
 use Rattle.table.specs.Table.{legal-label, legal-field, within-kind, origin, is-party, speaker}
 use Rattle.table.specs.View.{branches-of, owner-at, target-at, count-at, word-at, kind-at, low-at, high-at, label-of, sort-of, view, sound-of}
 use Rattle.table.specs.Scans.{legal-at, Word}
+use Rattle.table.specs.Lists.{first-no}
 use Rattle.table.proofs.Lists.{both, join}
 use Rattle.table.proofs.Facts.{Facts, sound-facts}
-use Rattle.message.specs.Message.{number-at, count-of, announced, legal-value, exact, refusal, well-formed, label-word}
+use Rattle.message.specs.Message.{number-at, count-of, announced, read, legal-value, front, refusal, label-word}
 use Rattle.message.specs.Judge.{judge}
-use Rattle.message.proofs.Reading.{value-at, label-of-word, Whole, parts-whole, well-formed-exactly}
+use Rattle.message.proofs.Reading.{value-at, label-of-word, Whole, parts-whole, cut-values}
 use Rattle.table.specs.declared.Party.{Party}
-use Rattle.monitor.specs.Leaves.{branch-named, First, Carried, Straight}
+use Rattle.monitor.specs.Leaves.{branch-named, First, Held, Straight, Leading}
 use Rattle.monitor.proofs.Asking.{all-well}
 use Rattle.monitor.proofs.ByPlaces.{allowed-here}
+use Rattle.monitor.proofs.Waiting.{all-there, first-formed}
 
 -- kinds 1 and 2
 module _ (l h n : ℕ) (a : l ≤ n) (b : n ≤ h) where
@@ -54,36 +57,61 @@ value-legal t message k f n e legal same a b =
 
 -- ---- the straight way
 
-module _ (t : List ℕ) (sound : sound-of t ≡ true) (message : List ℕ) (small : (k : ℕ) → getD message k 0 < 256) (nine : 9 ≤ length message)
-    (i r : ℕ) (first : First (branch-named t i (label-word message)) (branches-of t) r) (l : r < branches-of t)
-    (e : getD message 8 0 ≡ count-at t r) (arrays : 9 + 5 * count-at t r ≤ length message) where
+module _ (t : List ℕ) (sound : sound-of t ≡ true) (bytes : List ℕ) (small : (k : ℕ) → getD bytes k 0 < 256) (nine : 9 ≤ length bytes)
+    (i r : ℕ) (first : First (branch-named t i (label-word bytes)) (branches-of t) r) (l : r < branches-of t) (n : ℕ) (h : Held t bytes r n) where
   facts : Facts t
   facts = sound-facts t sound
 
   -- the label is a branch's, and so it is legal
-  label-legal : legal-label (take 8 message) ≡ true
+  label-legal : legal-label (take 8 bytes) ≡ true
   unfolding branch-named
   label-legal =
-      let w = eqb-true (word-at t r) (label-word message) (both (eqb (word-at t r) (label-word message)) (eqb (owner-at t r) i) (first .there l) .0) in
-      ap legal-label (sym (ap label-of w ∙ label-of-word message (omega arith) small)) ∙ facts .labels r l
+      let w = eqb-true (word-at t r) (label-word bytes) (both (eqb (word-at t r) (label-word bytes)) (eqb (owner-at t r) i) (first .there l) .0) in
+      ap legal-label (sym (ap label-of w ∙ label-of-word bytes (omega arith) small)) ∙ facts .labels r l
 
-  pub whole-there : Whole message
+  whole-there : Whole bytes
   unfolding count-of
-  whole-there = record { nine = nine; label = label-legal; few = omega (arith, e, facts .counts r l); arrays = omega (arith, e, arrays) }
+  whole-there =
+      record { nine = nine; label = label-legal; few = omega (arith, h .counted, facts .counts r l); arrays = omega (arith, h .counted, h .arrays) }
 
-  module _ (texts : ℕ) (c : Carried t message (4 * r) (count-at t r) texts) (exactly : length message ≡ 9 + 5 * count-at t r + texts) where
-    well-formed-there : refusal message ≡ 0
-    unfolding well-formed exact announced count-of
-    well-formed-there =
-        well-formed-exactly message .0
-        (join (join (parts-whole message whole-there) (c .legal)) (eq-eqb (length message) (announced message) (omega (arith, exactly, e, c .texts-are))))
+  front-there : front bytes ≡ 0
+  unfolding front first-no
+  front-there = rw (parts-whole bytes whole-there, h .carried .legal)
 
-    pub straight : (sort : ℕ) (side : Party) (room : ℕ) → is-party side (speaker (sort-of sort)) ≡ true → length message ≤ room
-        → ((k : ℕ) → k < r → owner-at t k ≡ i → Word (word-at t k))
-        → Straight t i sort side message room (target-at t r)
-    unfolding judge view
-    straight sort side room turn fits words = record {
-      asked = all-well (sort-of sort) side message room turn well-formed-there fits;
-      judged = allowed-here t (branches-of t) i message whole-there small r first words l e (c .kinds) (count-at t r)
-          (record { within = le-refl (count-at t r); before = λ k h. ap not (c .numbers k h); there = λ h. absurd (omega arith) }) (le-refl (count-at t r));
-    }
+  announced-there : announced bytes ≡ n
+  unfolding announced count-of
+  announced-there = omega (arith, h .counted, h .carried .texts-are, h .size)
+
+  -- whatever stands behind the message
+  read-there : read (take n bytes) ≡ read bytes
+  unfolding read count-of
+  read-there =
+      ap₂ (λ a b. record { label = a; values = b }) (take-take 8 n bytes (omega (arith, h .size)))
+      (cut-values bytes n whole-there (omega (arith, h .counted, h .size)) (h .there))
+
+  pub straight : (room : ℕ) → n ≤ room → ((k : ℕ) → k < r → owner-at t k ≡ i → Word (word-at t k)) → Leading t i bytes room n (target-at t r)
+  unfolding judge view
+  straight room fits words = record {
+    nine = omega (arith, h .size);
+    first = all-there bytes front-there (omega (arith, announced-there, h .there)) ∙ announced-there;
+    holds = fits;
+    judged = ap (judge (view t) i) read-there
+        ∙ allowed-here t (branches-of t) i bytes whole-there small r first words l (h .counted) (h .carried .kinds) (count-at t r)
+        (record { within = le-refl (count-at t r); before = λ k g. ap not (h .carried .numbers k g); there = λ g. absurd (omega arith) }) (le-refl (count-at t r));
+  }
+
+-- where nothing stands behind it, and it is its side's turn
+pub straight-alone : (t : List ℕ) (i : ℕ) (message : List ℕ) (room n r : ℕ) → Leading t i message room n r → n ≡ length message
+    → (sort : ℕ) (side : Party) → is-party side (speaker (sort-of sort)) ≡ true → Straight t i sort side message room r
+straight-alone t i message room n r x e sort side turn = record {
+  asked = all-well (sort-of sort) side message room turn formed (omega (arith, x .holds));
+  judged = ap (λ m. judge (view t) i (read m)) (sym all-taken) ∙ x .judged;
+}
+  where
+    all-taken : take n message ≡ message
+    all-taken = ap (λ k. take k message) e ∙ take-length message
+
+    formed : refusal message ≡ 0
+    formed =
+        ap refusal (sym (ap (λ k. take k message) (x .first) ∙ all-taken))
+        ∙ first-formed message (λ z. omega (arith, z, x .first, x .nine))

@@ -2,9 +2,10 @@
 // lengths are left to ask.
 ghost use mathlib.Core.Path.{_≡_};
 ghost use mathlib.Core.Bool.{true};
-ghost use Prim.Native.Nat.{_<_};
-ghost use Rattle.table.specs.View.{sound-of};
-ghost use Rattle.monitor.specs.Leaves.{Facing, Carried, Straight};
+ghost use Prim.Native.Nat.{_≤_, _<_};
+ghost use lib.ListN.{length};
+ghost use Rattle.table.specs.View.{branches-of, sound-of};
+ghost use Rattle.monitor.specs.Leaves.{Facing, Carried, Held, Straight, Leading};
 use super::ask;
 use super::judge;
 use table::Party;
@@ -30,33 +31,79 @@ pub fn leads_to(t: &Table, position: u8, sort: u32, side: Party, message: &[u8],
     if n <= b {
         return 32;
     }
-    let count = t[table::FIELDS + b] as u8;
-    if message[8] != count {
-        return 32;
-    }
-    let start = 9 + 5 * (count as usize);
-    if size < start {
-        return 32;
-    }
-    let carried = carry(t, 4 * b, count, message);
-    if !carried.ok {
-        return 32;
-    }
-    if size != start + carried.texts {
+    if held(t, b, message) != size {
         return 32;
     }
     t[table::TARGET + b] as u8
 }
 
-// Whether the fields from place `at` on hold the message's, and how many bytes of text these announce.
-struct Load {
-    ok: bool,
-    texts: usize,
+// Where the first message of some bytes leads, and its length. Target 32: it does not go straight.
+pub struct Ahead {
+    pub target: u8,
+    pub length: usize,
 }
 
-fn carry(t: &Table, at: usize, count: u8, message: &[u8]) -> Load
+// The first message of bytes that may go on, where it is well formed, all there, allowed at the position, and the room holds it.
+pub fn look_ahead(t: &Table, position: u8, bytes: &[u8], room: usize) -> Ahead
+    requires { ⌜ sound-of (now t) ≡ true ⌝ }
+    ensures { λ r. ⌜ (r .target < 32 → Leading (now (t .entry)) position (now (bytes .entry)) room (r .length) (r .target)) ⌝ }
+{
+    if bytes.len() < 9 {
+        return nowhere();
+    }
+    let n = t[table::BRANCHES] as usize;
+    let b = judge::find(t, n, position, message::label_word(bytes));
+    if n <= b {
+        return nowhere();
+    }
+    let length = held(t, b, bytes);
+    if length == 0 {
+        return nowhere();
+    }
+    if room < length {
+        return nowhere();
+    }
+    let target = t[table::TARGET + b] as u8;
+    Ahead { target, length }
+}
+
+fn nowhere() -> Ahead
+    ensures { λ r. ⌜ r ≡ record { target = 32; length = 0 } ⌝ }
+{
+    Ahead {
+        target: 32,
+        length: 0,
+    }
+}
+
+// How long the first message is, where branch b has its fields and it is all there; 0 where not.
+fn held(t: &Table, b: usize, bytes: &[u8]) -> usize
+    requires { ⌜ (sound-of (now t) ≡ true) × (b < branches-of (now t)) × (9 ≤ length (now bytes)) ⌝ }
+    ensures { λ r. ⌜ ((r ≡ 0 → ⊥) → Held (now (t .entry)) (now (bytes .entry)) b r) ⌝ }
+{
+    let count = t[table::FIELDS + b] as u8;
+    if bytes[8] != count {
+        return 0;
+    }
+    let start = 9 + 5 * (count as usize);
+    if bytes.len() < start {
+        return 0;
+    }
+    let texts = carry(t, 4 * b, count, bytes);
+    if 256 < texts {
+        return 0;
+    }
+    let length = start + texts;
+    if bytes.len() < length {
+        return 0;
+    }
+    length
+}
+
+// How many bytes of text the message's fields announce, where those from place `at` on hold them; 512 where not.
+fn carry(t: &Table, at: usize, count: u8, message: &[u8]) -> usize
     requires { ⌜ Facing (now t) (now message) at count ⌝ }
-    ensures { λ r. ⌜ (r .ok ≡ true → Carried (now (t .entry)) (now (message .entry)) at count (r .texts)) ⌝ }
+    ensures { λ r. ⌜ (r ≤ 256 → Carried (now (t .entry)) (now (message .entry)) at count r) ⌝ }
 {
     let numbers = 9 + count as usize;
     let mut texts: usize = 0;
@@ -66,28 +113,19 @@ fn carry(t: &Table, at: usize, count: u8, message: &[u8]) -> Load
         let k = at + i;
         let kind = message[9 + i];
         if judge::wide(kind) != t[table::KIND + k] {
-            return Load {
-                ok: false,
-                texts: 0,
-            };
+            return 512;
         }
         let number = message::number(message, numbers + 4 * i);
         if number < t[table::LOW + k] {
-            return Load {
-                ok: false,
-                texts: 0,
-            };
+            return 512;
         }
         if t[table::HIGH + k] < number {
-            return Load {
-                ok: false,
-                texts: 0,
-            };
+            return 512;
         }
         f += 1;
         if kind == 1 {
             texts += (number - 0x8000_0000) as usize;
         }
     }
-    Load { ok: true, texts }
+    texts
 }

@@ -12,7 +12,7 @@ use borrow.Author.Tests.{ne-eqb, eqb-true, le-leb, ltb-true, ltb-false}
 use Rattle.table.specs.Lists.{every}
 use Rattle.table.specs.Table.{upper, letter-or-digit, label-rest, legal-label}
 use Rattle.table.specs.View.{label-of}
-use Rattle.table.proofs.Lists.{both, join, never}
+use Rattle.table.proofs.Lists.{both, join, never, every-append}
 use Rattle.text.specs.Token.{one-of, packed, word-of}
 use Rattle.text.specs.Number.{Signed, value-of}
 use Rattle.text.specs.Grammar.{Ty, Tok, word, number, sign, print-text}
@@ -100,11 +100,6 @@ label-spells (c ∷ r) e =
 
 -- ---- numbers
 
-every-last : (f : ℕ → Bool) (u : List ℕ) (c : ℕ) → every f u ≡ true → f c ≡ true → every f (u ++ (c ∷ [])) ≡ true
-unfolding every
-every-last f [] c e h = join h refl
-every-last f (b ∷ u) c e h = let p = both (f b) (every f u) e in join (p .0) (every-last f u c (p .1) h)
-
 value-last : (u : List ℕ) (v c : ℕ) → value-of v (u ++ (c ∷ [])) ≡ value-of v u * 10 + (c - 48)
 unfolding value-of
 value-last [] v c = refl
@@ -138,7 +133,7 @@ decimal-is (suc fuel) n h = go (ltb n 10) refl (decimal-is fuel (n / 10))
         let d = ih (omega arith) in
         let w = digits fuel (n / 10) in
         record {
-          all = every-last a-digit w (48 + n % 10) (d .all) (small-digit (n % 10) (omega arith));
+          all = every-append a-digit w ((48 + n % 10) ∷ []) (d .all) (join (small-digit (n % 10) (omega arith)) refl);
           value = value-last w 0 (48 + n % 10) ∙ rw (d .value) (omega arith);
           first = λ p. first-last w (48 + n % 10) (d .first (omega arith));
         }

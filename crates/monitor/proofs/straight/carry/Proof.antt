@@ -12,7 +12,7 @@ use borrow.Author.Tests.{not-false}
 use Rattle.table.specs.Lists.{upto}
 use Rattle.table.specs.View.{kind-at}
 use Rattle.table.specs.Scans.{all}
-use Rattle.table.proofs.Lists.{never, all-yes, all-end}
+use Rattle.table.proofs.Lists.{all-yes, all-end}
 use Rattle.message.specs.Message.{number-at, count-of, text-bytes, legal-value}
 use Rattle.message.proofs.Reading.{value-at, values-places, legal-places, text-within, texts-text, texts-other}
 use Rattle.monitor.specs.Leaves.{kind-is, inside, Facing}
@@ -38,13 +38,13 @@ unfolding all upto text-bytes
 loop-holds c = (search needs, c .before .pre, ap (λ n. 9 + n) (c .before .pre .counted), refl, λ j l. absurd (not-suc-le-zero l), refl, refl, search needs)
 
 returns : tie.Need-returns Inv-loop μ-loop
-returns c e = never e refl
+returns c l = absurd (omega arith)
 
 returns-2 : tie.Need-returns-2 Inv-loop μ-loop
-returns-2 c e = never e refl
+returns-2 c l = absurd (omega arith)
 
 returns-3 : tie.Need-returns-3 Inv-loop μ-loop
-returns-3 c e = never e refl
+returns-3 c l = absurd (omega arith)
 
 -- what was read in this turn is field f, which is held
 abbrev start : tie.Else3 Inv-loop μ-loop → tie.Start Inv-loop μ-loop

@@ -1,0 +1,38 @@
+-- `monitor::ask::of_batch` meets its contract: one law for each return. Assumes nothing.
+use mathlib.Core.Path.{_≡_, sym, _∙_}
+use borrow.Author.Needs.{needs}
+use mathlib.Core.Bool.{true}
+use Rattle.table.specs.View.{sound-of}
+use borrow.Author.Tests.{not-true, not-false}
+use Rattle.monitor.proofs.Asking.{unsound, no-state, not-running, none-stops}
+use Rattle.monitor.proofs.ask.of_batch.Statement.{statement}
+use Rattle.monitor.proofs.ask.of_batch.Tie as tie
+
+returns : tie.Need-returns
+returns c = sym (unsound _ _ (sym (c .before .sound .ensures) ∙ not-true _ (c .if1 .taken)))
+
+returns-2 : tie.Need-returns-2
+returns-2 c = sym (no-state _ _ (c .if2 .taken))
+
+-- the table is sound
+yes : (c : tie.Else1) → sound-of (c .before .before .args .t .now) ≡ true
+yes c = sym (c .before .sound .ensures) ∙ not-false _ (c .if1 .left)
+
+returns-3 : tie.Need-returns-3
+returns-3 c = sym (not-running _ _ (yes (c .before .before .before .before)) (c .before .before .if2 .left) (sym (c .before .is-running .ensures) ∙ not-true _ (c .if3 .taken)))
+
+returns-4 : tie.Need-returns-4
+returns-4 c = sym (none-stops _ _ (yes (c .before .before .before .before)) (c .before .before .if2 .left) (sym (c .before .is-running .ensures) ∙ not-false _ (c .if3 .left)))
+
+pub of-batch-spec : {M : Type 1} → statement M
+of-batch-spec =
+    tie.close
+    (tie.spec
+    (λ c κs. search needs)
+    returns
+    (λ c. search needs)
+    (λ c. search needs)
+    returns-2
+    (λ c κs. search needs)
+    returns-3
+    returns-4)

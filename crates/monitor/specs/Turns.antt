@@ -1,0 +1,84 @@
+-- What the inner functions of a batch say and ask. It need not be believed: the laws tie it to Batch.
+-- Assumes nothing.
+use mathlib.Core.Path.{_≡_}
+use mathlib.Core.Bool.{Bool, true, false}
+use mathlib.Core.List.{List}
+use mathlib.Core.Option.{Option, none, some}
+use Prim.Native.Nat.{ℕ, _+_, _≤_, _<_}
+use lib.ListN.{length}
+use Rattle.table.specs.View.{Words, sound-at}
+use Rattle.table.specs.declared.Party.{Party}
+use Rattle.message.specs.Message.{refusal}
+use Rattle.monitor.specs.declared.State.{State}
+use Rattle.monitor.specs.declared.straight.Ahead.{Ahead}
+use Rattle.monitor.specs.declared.batch.Last.{Last}
+use Rattle.monitor.specs.declared.batch.Lane.{Lane}
+use Rattle.monitor.specs.declared.batch.Passed.{Passed}
+use Rattle.monitor.specs.declared.batch.Batched.{Batched}
+use Rattle.monitor.specs.declared.lane.Taken.{Taken}
+use Rattle.monitor.specs.declared.batch.Turned.{Turned}
+use Rattle.monitor.specs.Step.{Told, refused, blamed, forwarded}
+use Rattle.monitor.specs.Due.{of-side, awaited}
+use Rattle.monitor.specs.Batch.{Batch, taking, one-turn, last-of, batched}
+use Rattle.monitor.specs.Batch as B
+
+-- a well-formed message of the side whose turn it is: only 16 is left to ask
+pub record Heard (t : Words) (s : State) (side : Party) (message : List ℕ) : Type 0 where
+  pub turn : awaited t s ≡ of-side side
+  pub formed : refusal message ≡ 0
+
+-- the counts are within the bytes and the output
+pub record LaneIn (bytes : List ℕ) (l : B.Lane) : Type 0 where
+  pub used : l .used ≤ length bytes
+  pub written : l .written ≤ length (l .output)
+
+-- 9 gets a yes, and the counts are within
+pub record Within (t : Words) (device host : List ℕ) (b : Batch) : Type 0 where
+  pub sound : sound-at t (b .state .position) ≡ true
+  pub from-device : LaneIn device (b .device)
+  pub from-host : LaneIn host (b .host)
+
+unfoldable pub is-last-forwarded : Option Told → Bool
+is-last-forwarded none = false
+is-last-forwarded (some (refused q)) = false
+is-last-forwarded (some (blamed side r f)) = false
+is-last-forwarded (some forwarded) = true
+
+-- from one batch to another by turns that forward
+pub data Led (t : Words) (device host : List ℕ) (b : Batch) : Batch → Type 0 where
+  no-turn : Led t device host b b
+  a-turn : {c d : Batch} → Led t device host b c → one-turn t device host c ≡ (some forwarded, d) → Led t device host b d
+
+-- the program's answer before any turn, and at a state
+abbrev pub none-passed : State → Last → Batched
+none-passed s last =
+    record { state = s; passed = record { device = record { used = 0; written = 0 }; host = record { used = 0; written = 0 }; last = last } }
+
+abbrev pub passed-at : State → Passed → Batched
+passed-at s p = record { state = s; passed = p }
+
+-- the program's counts with an output, and its answers
+abbrev pub lane-of : Lane → List ℕ → B.Lane
+lane-of l out = record { used = l .used; written = l .written; output = out }
+
+abbrev pub taken-of : Taken → List ℕ → B.Taken
+taken-of r out = record { answer = last-of (r .answer); state = r .state; lane = lane-of (r .lane) out }
+
+abbrev pub turned-told : Turned → List ℕ → List ℕ → Option Told × Batch
+turned-told r to-device to-host = (last-of (r .answer), batched (r .batch) to-device to-host)
+
+-- the state after a message that went straight
+abbrev pub moved-to : ℕ → State → State
+moved-to target s = record { position = target; standing = s .standing }
+
+-- what is ahead is the turn of whoever has it at this position; `after` is the output then. Nothing is done where it does not go straight
+pub record PassedOn (t : Words) (position : ℕ) (bytes : List ℕ) (l : B.Lane) (after : List ℕ) (r : Ahead) : Type 0 where
+  pub straight : r .target < 32 → (s : State) (side : Party) → s .position ≡ position → awaited t s ≡ of-side side
+      → taking t s side bytes l
+      ≡ record {
+        answer = some forwarded;
+        state = moved-to (r .target) s;
+        lane = record { used = l .used + r .length; written = l .written + r .length; output = after };
+      }
+  pub within : r .target < 32 → (l .used + r .length ≤ length bytes) × (l .written + r .length ≤ length (l .output))
+  pub stays : (r .target < 32 → ⊥) → after ≡ l .output

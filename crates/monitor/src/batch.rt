@@ -1,0 +1,272 @@
+// A scan's worth of messages in one call: single steps on the due messages, in turn. Questions 9 and 10 are asked once: the table
+// does not change, and what a sound table's branch leads to is one of its states. Messages that are allowed go straight through;
+// the first that does not is taken by itself.
+ghost use mathlib.Core.Path.{_≡_};
+ghost use mathlib.Core.Bool.{true};
+ghost use mathlib.Core.List.{List};
+ghost use Prim.Native.Nat.{ℕ, _+_, _≤_};
+ghost use Rattle.monitor.specs.Step.{is-running};
+ghost use Rattle.monitor.specs.Batch.{latest, device-took, host-took, one-turn, batching, last-of, batched};
+ghost use Rattle.monitor.specs.Turns.{Within, Led, is-last-forwarded, none-passed, passed-at, taken-of, turned-told};
+ghost use Rattle.monitor.specs.declared.State.{State};
+ghost use Rattle.monitor.specs.declared.Verdict.the-variants.{Forwarded};
+ghost use Rattle.monitor.specs.declared.batch.Last.the-variants.{Answer};
+use super::State;
+use super::Verdict;
+use super::ask;
+use super::lane;
+use super::lane::Taken;
+use super::straight::Ahead;
+use table::Party;
+use table::Table;
+
+// The answer of the last step that was tried, or 9's or 10's no; or no step was tried, for none was due.
+pub enum Last {
+    NoneDue,
+    Answer(Verdict),
+}
+
+// How many of one side's waiting bytes are used, and how many bytes are written on the other side's output.
+pub struct Lane {
+    pub used: usize,
+    pub written: usize,
+}
+
+// The device's messages go to the host's output, the host's to the device's.
+pub struct Passed {
+    pub device: Lane,
+    pub host: Lane,
+    pub last: Last,
+}
+
+pub struct Batched {
+    pub state: State,
+    pub passed: Passed,
+}
+
+// Takes due messages in turn until none is due, a step refuses or a blame falls.
+pub fn batch(
+    t: &Table,
+    s: State,
+    device: &[u8],
+    host: &[u8],
+    to_device: &mut [u8],
+    to_host: &mut [u8],
+) -> Batched
+    ensures { λ r. ⌜ batched r (now («to_device» .exit)) (now («to_host» .exit))
+        ≡ batching (now (t .entry)) s (now (device .entry)) (now (host .entry))
+        (now («to_device» .entry)) (now («to_host» .entry)) ⌝ }
+{
+    let q = ask::of_batch(t, s);
+    if q != 0 {
+        return begun(s, Last::Answer(Verdict::Refused(q)));
+    }
+    let mut b = begun(s, Last::NoneDue);
+    loop {
+        let far = straight_on(t, b, device, host, to_device, to_host);
+        let r = turn(t, far, device, host, to_device, to_host);
+        let next = r.batch;
+        let answer = r.answer;
+        if !is_forwarded(answer) {
+            return next;
+        }
+        b = next;
+    }
+}
+
+// The same over a state that is lent, and advanced.
+pub fn advance(
+    t: &Table,
+    s: &mut State,
+    device: &[u8],
+    host: &[u8],
+    to_device: &mut [u8],
+    to_host: &mut [u8],
+) -> Passed
+    ensures { λ r. ⌜ batched (record { state = now (s .exit); passed = r }) (now («to_device» .exit)) (now («to_host» .exit))
+        ≡ batching (now (t .entry)) (now (s .entry)) (now (device .entry)) (now (host .entry))
+        (now («to_device» .entry)) (now («to_host» .entry)) ⌝ }
+{
+    let r = batch(t, *s, device, host, to_device, to_host);
+    *s = r.state;
+    r.passed
+}
+
+// Nothing used, nothing written.
+fn begun(s: State, last: Last) -> Batched
+    ensures { λ r. ⌜ r ≡ none-passed s last ⌝ }
+{
+    let device = Lane {
+        used: 0,
+        written: 0,
+    };
+    let host = Lane {
+        used: 0,
+        written: 0,
+    };
+    Batched {
+        state: s,
+        passed: Passed { device, host, last },
+    }
+}
+
+// As far as messages of either side go straight.
+fn straight_on(
+    t: &Table,
+    from: Batched,
+    device: &[u8],
+    host: &[u8],
+    to_device: &mut [u8],
+    to_host: &mut [u8],
+) -> Batched
+    requires { ⌜ Within (now t) (now device) (now host) (batched from (now «to_device») (now «to_host»))
+        × (is-running (from .state .standing) ≡ true) ⌝ }
+    ensures { λ r. ⌜ Led (now (t .entry)) (now (device .entry)) (now (host .entry))
+        (batched from (now («to_device» .entry)) (now («to_host» .entry))) (batched r (now («to_device» .exit)) (now («to_host» .exit))) ⌝ }
+{
+    let mut b = from;
+    loop {
+        let s = b.state;
+        let p = b.passed;
+        let sort = t[table::SORT + s.position as usize];
+        if sort == 0 {
+            return b;
+        }
+        if sort == 1 {
+            let first = lane::pass(t, s.position, p.device, device, to_host);
+            if 32 <= first.target {
+                return b;
+            }
+            b = forwarded(s, first, further(p.device, first.length), p.host);
+        } else {
+            let first = lane::pass(t, s.position, p.host, host, to_device);
+            if 32 <= first.target {
+                return b;
+            }
+            b = forwarded(s, first, p.device, further(p.host, first.length));
+        }
+    }
+}
+
+// After a message that went straight.
+fn forwarded(s: State, first: Ahead, device: Lane, host: Lane) -> Batched
+    ensures { λ r. ⌜ r ≡ record {
+      state = record { position = first .target; standing = s .standing };
+      passed = record { device = device; host = host; last = Answer Forwarded };
+    } ⌝ }
+{
+    let standing = s.standing;
+    let state = State {
+        position: first.target,
+        standing,
+    };
+    let last = Last::Answer(Verdict::Forwarded);
+    Batched {
+        state,
+        passed: Passed { device, host, last },
+    }
+}
+
+fn further(lane: Lane, n: usize) -> Lane
+    requires { ⌜ (lane .used + n ≤ 18446744073709551615) × (lane .written + n ≤ 18446744073709551615) ⌝ }
+    ensures { λ r. ⌜ r ≡ record { used = lane .used + n; written = lane .written + n } ⌝ }
+{
+    Lane {
+        used: lane.used + n,
+        written: lane.written + n,
+    }
+}
+
+// What comes of one turn, whosesoever it is.
+struct Turned {
+    answer: Last,
+    batch: Batched,
+}
+
+// One turn: nobody's at an end, the device's or the host's.
+fn turn(
+    t: &Table,
+    b: Batched,
+    device: &[u8],
+    host: &[u8],
+    to_device: &mut [u8],
+    to_host: &mut [u8],
+) -> Turned
+    requires { ⌜ Within (now t) (now device) (now host) (batched b (now «to_device») (now «to_host»))
+        × (is-running (b .state .standing) ≡ true) ⌝ }
+    ensures { λ r. ⌜ turned-told r (now («to_device» .exit)) (now («to_host» .exit))
+        ≡ one-turn (now (t .entry)) (now (device .entry)) (now (host .entry))
+        (batched b (now («to_device» .entry)) (now («to_host» .entry))) ⌝ }
+{
+    let s = b.state;
+    let p = b.passed;
+    let sort = t[table::SORT + s.position as usize];
+    if sort == 0 {
+        return Turned {
+            answer: Last::NoneDue,
+            batch: b,
+        };
+    }
+    if sort == 1 {
+        let x = lane::take(t, s, Party::Device, p.device, device, to_host);
+        return of_device(p, x);
+    }
+    let x = lane::take(t, s, Party::Host, p.host, host, to_device);
+    of_host(p, x)
+}
+
+fn of_device(p: Passed, x: Taken) -> Turned
+    ensures { λ r. ⌜ ((s : State) (td th before : List ℕ)
+        → turned-told r td th ≡ device-took (taken-of x th) (batched (passed-at s p) td before)) ⌝ }
+{
+    let answer = x.answer;
+    let before = p.last;
+    let last = latest(answer, before);
+    let state = x.state;
+    let device = x.lane;
+    let host = p.host;
+    let batch = Batched {
+        state,
+        passed: Passed { device, host, last },
+    };
+    Turned { answer, batch }
+}
+
+fn of_host(p: Passed, x: Taken) -> Turned
+    ensures { λ r. ⌜ ((s : State) (td th before : List ℕ)
+        → turned-told r td th ≡ host-took (taken-of x td) (batched (passed-at s p) before th)) ⌝ }
+{
+    let answer = x.answer;
+    let before = p.last;
+    let last = latest(answer, before);
+    let state = x.state;
+    let device = p.device;
+    let host = x.lane;
+    let batch = Batched {
+        state,
+        passed: Passed { device, host, last },
+    };
+    Turned { answer, batch }
+}
+
+fn latest(answer: Last, before: Last) -> Last
+    ensures { λ r. ⌜ last-of r ≡ latest (last-of answer) (last-of before) ⌝ }
+{
+    match answer {
+        Last::NoneDue => before,
+        Last::Answer(v) => Last::Answer(v),
+    }
+}
+
+fn is_forwarded(answer: Last) -> bool
+    ensures { λ r. ⌜ r ≡ is-last-forwarded (last-of answer) ⌝ }
+{
+    let Last::Answer(v) = answer else {
+        return false;
+    };
+    match v {
+        Verdict::Refused(_) => false,
+        Verdict::Blamed(_, _) => false,
+        Verdict::Forwarded => true,
+    }
+}
