@@ -1,8 +1,9 @@
 /* Sojimu: verified session monitoring, for C and C++ on x86-64, which here means the System V ABI and ELF.
  *
  * A protocol is a session type, as a device sees it. A gateway reads its text into a table once (sojimu_read), keeps one state of
- * two bytes for each conversation (sojimu_fresh), and asks of every message whether it may pass (sojimu_step). Before
- * installation it may ask whether a described device fits (sojimu_fit). Link with libsojimu.a, and ask sojimu_matches() once.
+ * two bytes for each conversation (sojimu_fresh), and asks of every message whether it may pass (sojimu_step), or of all that wait
+ * together (sojimu_batch). Before installation it may ask whether a described device fits (sojimu_fit). Link with libsojimu.a, and
+ * ask sojimu_matches() once.
  *
  * Every function of the library is proved to meet its contract for every input. What is proved ends at the calls below: this
  * header, which is C, is tested.
@@ -14,7 +15,7 @@
  *     back is empty and any count 0.
  *   - Every byte of what is given back is determined: no struct here has padding.
  *   - No global state, no allocation, no lock, no call back, no input or output: calls may be made from any threads, as long as
- *     what one call writes (state, out, list) is in use by no other. Of the C library only memcpy and memset are called.
+ *     what one call writes (state, outputs, list) is in use by no other. Of the C library only memcpy and memset are called.
  *   - Pointers point to what they say, for the call's duration. NULL is taken wherever the length or the room is 0. What a call
  *     writes overlaps nothing else that the call is given.
  *
@@ -59,7 +60,7 @@ extern "C" {
 /* ---- constants */
 
 /* This header's version: raised whenever a struct or a call changes. */
-#define SOJIMU_VERSION UINT32_C(2)
+#define SOJIMU_VERSION UINT32_C(3)
 
 /* Limits. A message has at most 285 bytes, a list that question 17 never refuses 1,024 entries, a buffer that holds every report
  * 16,384 bytes. As soon as SOJIMU_FRONT bytes are there, a message announces its length. */
@@ -100,8 +101,8 @@ enum { SOJIMU_DEVICE = 0, SOJIMU_HOST = 1 };
 /* A conversation's standing. */
 enum { SOJIMU_RUNNING = 0, SOJIMU_DEVICE_BLAMED = 1, SOJIMU_HOST_BLAMED = 2 };
 
-/* A step's outcome. */
-enum { SOJIMU_FORWARDED = 0, SOJIMU_REFUSED = 1, SOJIMU_BLAMED = 2 };
+/* A step's outcome; of the last answer of a batch also that none was due. */
+enum { SOJIMU_FORWARDED = 0, SOJIMU_REFUSED = 1, SOJIMU_BLAMED = 2, SOJIMU_NONE_DUE = 3 };
 
 /* Why a sender is blamed: no such label; field count or kinds differ; a number outside its range. */
 enum { SOJIMU_NO_LABEL = 1, SOJIMU_OTHER_KINDS = 2, SOJIMU_OUT_OF_RANGE = 3 };
@@ -161,10 +162,22 @@ struct sojimu_turn {
     uint32_t question, side;
 };
 
-/* A step's verdict. refused: `question` is 9 to 16. blamed: `party` is SOJIMU_DEVICE or SOJIMU_HOST, `reason` 1 to 3, and with
- * reason 3 `field` is the first field (from 0) that is outside its range. What does not apply is 0. */
+/* A step's verdict, or the last answer of a batch. refused: `question` is 9 to 16, of a batch 9, 10 or 16. blamed: `party` is
+ * SOJIMU_DEVICE or SOJIMU_HOST, `reason` 1 to 3, and with reason 3 `field` is the first field (from 0) that is outside its range.
+ * What does not apply is 0. */
 struct sojimu_verdict {
     uint8_t outcome, question, party, reason, field;
+};
+
+/* What came of a batch: how many of the bytes that wait on either side are used, those of forwarded and blamed messages; how many
+ * bytes are written on either output, those of the messages forwarded to it; and the last answer. That is the verdict of the last
+ * step tried, also where nothing was due after it; or 9 or 10, which refused the batch; or SOJIMU_NONE_DUE, where no step was
+ * tried. `reserved` is 0. */
+struct sojimu_batch {
+    size_t used_device, used_host;
+    size_t written_to_device, written_to_host;
+    struct sojimu_verdict last;
+    uint8_t reserved[3];
 };
 
 /* The due part: the first `length` bytes of a side's waiting bytes. Length 0: nothing is due. */
@@ -201,6 +214,9 @@ SOJIMU_HOLDS(sizeof(struct sojimu_state) == 2 && SOJIMU_AT(state, position, 0) &
 SOJIMU_HOLDS(sizeof(struct sojimu_turn) == 8 && SOJIMU_AT(turn, question, 0) && SOJIMU_AT(turn, side, 4));
 SOJIMU_HOLDS(sizeof(struct sojimu_verdict) == 5 && SOJIMU_AT(verdict, outcome, 0) && SOJIMU_AT(verdict, question, 1));
 SOJIMU_HOLDS(SOJIMU_AT(verdict, party, 2) && SOJIMU_AT(verdict, reason, 3) && SOJIMU_AT(verdict, field, 4));
+SOJIMU_HOLDS(sizeof(struct sojimu_batch) == 40 && SOJIMU_AT(batch, used_device, 0) && SOJIMU_AT(batch, used_host, 8));
+SOJIMU_HOLDS(SOJIMU_AT(batch, written_to_device, 16) && SOJIMU_AT(batch, written_to_host, 24) && SOJIMU_AT(batch, last, 32));
+SOJIMU_HOLDS(SOJIMU_AT(batch, reserved, 37));
 SOJIMU_HOLDS(sizeof(struct sojimu_due) == 8 && SOJIMU_AT(due, side, 0) && SOJIMU_AT(due, length, 4));
 SOJIMU_HOLDS(sizeof(struct sojimu_made) == 8 && SOJIMU_AT(made, question, 0) && SOJIMU_AT(made, length, 4));
 SOJIMU_HOLDS(sizeof(struct sojimu_fit) == 16 && SOJIMU_AT(fit, outcome, 0) && SOJIMU_AT(fit, question, 4));
@@ -222,6 +238,9 @@ bool sojimu_raw_has_label(const uint8_t *bytes, size_t length, uint64_t label);
 struct sojimu_made sojimu_raw_make(const struct sojimu_table *table, uint32_t branch, uint32_t named, uint8_t *out, size_t room);
 struct sojimu_verdict sojimu_raw_step(const struct sojimu_table *table, struct sojimu_state *state, uint32_t side,
                                       const uint8_t *message, size_t length, uint8_t *out, size_t room);
+struct sojimu_batch sojimu_raw_batch(const struct sojimu_table *table, struct sojimu_state *state, const uint8_t *device,
+                                     size_t device_length, const uint8_t *host, size_t host_length, uint8_t *to_device,
+                                     size_t device_room, uint8_t *to_host, size_t host_room);
 struct sojimu_due sojimu_raw_due(const struct sojimu_table *table, struct sojimu_state state, const uint8_t *device,
                                  size_t device_length, const uint8_t *host, size_t host_length);
 struct sojimu_fit sojimu_raw_fit(const struct sojimu_table *device, const struct sojimu_table *protocol, uint16_t *list,
@@ -400,7 +419,7 @@ static inline struct sojimu_made sojimu_encode(uint64_t label, const struct soji
 /* The state of a conversation that begins: position 0, running. */
 struct sojimu_state sojimu_fresh(void);
 
-/* Three of the functions below have the names of the structs that they return, as `stat` has. C++ allows that, and g++ warns of
+/* Four of the functions below have the names of the structs that they return, as `stat` has. C++ allows that, and g++ warns of
  * it. */
 #if defined(__cplusplus) && defined(__GNUC__)
 #pragma GCC diagnostic push
@@ -418,6 +437,20 @@ static inline struct sojimu_verdict sojimu_step(const struct sojimu_table *table
                                                 const uint8_t *message, size_t length, uint8_t *out, size_t room)
 {
     return sojimu_raw_step(table, state, side, sojimu_lent(message, length), length, sojimu_lent(out, room), room);
+}
+
+/* A batch: takes the due messages of the bytes that wait on either side, in turn, each by a step, until none is due, a step refuses
+ * or a blame falls. The device's messages go to `to_host`, the host's to `to_device`, one behind the other. Asks 9 and 10, and on
+ * a refusal by them nothing is changed. All that it does is what sojimu_due and sojimu_step do one after another, each step given
+ * what is left of its output; but 9 is asked once. A step that 16 refuses changes nothing, and its bytes are not used: make room,
+ * and call again with the rest. Either way the first used_.. bytes of a side are done with, and the others wait. */
+static inline struct sojimu_batch sojimu_batch(const struct sojimu_table *table, struct sojimu_state *state, const uint8_t *device,
+                                               size_t device_length, const uint8_t *host, size_t host_length,
+                                               uint8_t *to_device, size_t device_room, uint8_t *to_host, size_t host_room)
+{
+    return sojimu_raw_batch(table, state, sojimu_lent(device, device_length), device_length, sojimu_lent(host, host_length),
+                            host_length, sojimu_lent(to_device, device_room), device_room, sojimu_lent(to_host, host_room),
+                            host_room);
 }
 
 /* The due message, from the bytes that wait on either side: the first message of the side whose turn it is. Length 0 when 13 or

@@ -105,3 +105,31 @@ static inline size_t largest_text(char *text)
     }
     return n + (size_t)sprintf(text + n, "}");
 }
+
+/* ---- messages */
+
+static inline void put_number(uint8_t *bytes, int32_t value)
+{
+    const uint32_t n = (uint32_t)value;
+    bytes[0] = (uint8_t)(n >> 24);
+    bytes[1] = (uint8_t)(n >> 16 & 255);
+    bytes[2] = (uint8_t)(n >> 8 & 255);
+    bytes[3] = (uint8_t)(n & 255);
+}
+
+/* A message with no field, or with one that is not a text. */
+static inline size_t plain(uint8_t *bytes, const char *label)
+{
+    memset(bytes, 0, 9);
+    memcpy(bytes, label, strlen(label));
+    return 9;
+}
+
+static inline size_t with_number(uint8_t *bytes, const char *label, uint8_t kind, int32_t value)
+{
+    plain(bytes, label);
+    bytes[8] = 1;
+    bytes[9] = kind;
+    put_number(bytes + 10, value);
+    return 14;
+}

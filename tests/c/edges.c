@@ -16,6 +16,9 @@ enum { WIDES = sizeof WIDE / sizeof WIDE[0] };
 /* The calls whose struct is given back in memory, with the place for it, as the ABI hands it over. */
 void dual_into(void *place, const struct sojimu_table *table) __asm__("sojimu_dual");
 void empty_into(void *place) __asm__("sojimu_empty");
+void batch_into(void *place, const struct sojimu_table *table, struct sojimu_state *state, const uint8_t *device,
+                size_t device_length, const uint8_t *host, size_t host_length, uint8_t *to_device, size_t device_room,
+                uint8_t *to_host, size_t host_room) __asm__("sojimu_raw_batch");
 
 /* Leaves bytes of one value where the stack of the next call will be. */
 static __attribute__((noinline)) void litter(uint8_t value)
@@ -66,6 +69,39 @@ static void give_dual_refused(void *place)
     dual_into(place, &empty);
 }
 
+/* A batch of one message, under this table, with so much room. */
+static void batch_of(void *place, const struct sojimu_table *table, const uint8_t *message, size_t length, size_t room)
+{
+    struct sojimu_state s = START;
+    uint8_t to_device[1];
+    batch_into(place, table, &s, message, length, message, length, to_device, 0, out, room);
+}
+
+static void give_batch(void *place)
+{
+    batch_of(place, &p, ASK_100, sizeof ASK_100, ROOM);
+}
+
+static void give_batch_full(void *place)
+{
+    batch_of(place, &p, ASK_100, sizeof ASK_100, 13);
+}
+
+static void give_batch_none_due(void *place)
+{
+    batch_of(place, &p, ASK_100, 13, ROOM);
+}
+
+static void give_batch_blamed(void *place)
+{
+    batch_of(place, &p, (const uint8_t *)"No\0\0\0\0\0\0", 9, ROOM);
+}
+
+static void give_batch_refused(void *place)
+{
+    batch_of(place, &empty, ASK_100, sizeof ASK_100, ROOM);
+}
+
 #define GIVES(name, type, call)                     \
     static void name(void *place)                   \
     {                                               \
@@ -107,6 +143,11 @@ static void bytes_determined(void)
     CHECK(determined(give_forwarded, sizeof(struct sojimu_verdict)));
     CHECK(determined(give_refused, sizeof(struct sojimu_verdict)));
     CHECK(determined(give_blamed, sizeof(struct sojimu_verdict)));
+    CHECK(determined(give_batch, sizeof(struct sojimu_batch)));
+    CHECK(determined(give_batch_full, sizeof(struct sojimu_batch)));
+    CHECK(determined(give_batch_none_due, sizeof(struct sojimu_batch)));
+    CHECK(determined(give_batch_blamed, sizeof(struct sojimu_batch)));
+    CHECK(determined(give_batch_refused, sizeof(struct sojimu_batch)));
     CHECK(determined(give_turn, sizeof(struct sojimu_turn)));
     CHECK(determined(give_turn_refused, sizeof(struct sojimu_turn)));
     CHECK(determined(give_due, sizeof(struct sojimu_due)));
@@ -138,6 +179,8 @@ static void nothing(void)
     CHECK(sojimu_step(&p, &s, SOJIMU_DEVICE, NULL, 0, NULL, 0).question == 13);
     CHECK(sojimu_step(&p, &s, SOJIMU_DEVICE, NULL, 0, out, ROOM).question == 13);
     CHECK(sojimu_step(&p, &s, SOJIMU_DEVICE, ASK_100, sizeof ASK_100, NULL, 0).question == 16);
+    CHECK(sojimu_batch(&p, &s, NULL, 0, NULL, 0, NULL, 0, NULL, 0).last.outcome == SOJIMU_NONE_DUE);
+    CHECK(sojimu_batch(&p, &s, ASK_100, sizeof ASK_100, NULL, 0, NULL, 0, NULL, 0).last.question == 16);
     CHECK(s.position == 0 && s.standing == SOJIMU_RUNNING);
     CHECK(sojimu_due(&p, s, NULL, 0, NULL, 0).length == 0);
     CHECK(sojimu_due(&p, s, ASK_100, sizeof ASK_100, NULL, 0).length == sizeof ASK_100);
@@ -184,17 +227,25 @@ static void wide_numbers(void)
 
 /* ---- a table's words may have any value */
 
+static uint8_t other_out[ROOM];
+
+static const uint8_t unwritten[ROOM];
+
 /* Every call that takes this table answers 9. */
 static bool all_nine(const struct sojimu_table *t)
 {
     struct sojimu_state s = START;
     const struct sojimu_turned d = sojimu_dual(t);
     const struct sojimu_verdict v = sojimu_step(t, &s, SOJIMU_DEVICE, ASK_100, sizeof ASK_100, out, ROOM);
+    const struct sojimu_batch b =
+        sojimu_batch(t, &s, ASK_100, sizeof ASK_100, ASK_100, sizeof ASK_100, other_out, ROOM, out, ROOM);
     const struct sojimu_turn turn = sojimu_turn(t, s);
     const struct sojimu_due due = sojimu_due(t, s, ASK_100, sizeof ASK_100, ASK_100, sizeof ASK_100);
     const struct sojimu_fit f = sojimu_fit(t, &p, list, SOJIMU_LIST), g = sojimu_fit(&p, t, list, SOJIMU_LIST);
     return !sojimu_sound(t) && !sojimu_sound_at(t, 0) && d.question == 9 && same_tables(&d.table, &empty) &&
            v.outcome == SOJIMU_REFUSED && v.question == 9 && s.position == 0 && s.standing == SOJIMU_RUNNING &&
+           b.last.outcome == SOJIMU_REFUSED && b.last.question == 9 && b.used_device == 0 && b.used_host == 0 &&
+           b.written_to_device == 0 && b.written_to_host == 0 && memcmp(other_out, unwritten, ROOM) == 0 &&
            turn.question == 9 && turn.side == 0 && due.side == SOJIMU_DEVICE && due.length == 0 &&
            f.outcome == SOJIMU_FIT_REFUSED && f.question == 9 && g.outcome == SOJIMU_FIT_REFUSED && g.question == 9 &&
            unmade(sojimu_make(t, 0, SOJIMU_ALL_LOW, out, ROOM), 9) && marked_from(0);
@@ -396,7 +447,7 @@ static void encoder(void)
 int main(void)
 {
     p = table_of(P);
-    CHECK(sojimu_version() == 2 && SOJIMU_VERSION == 2 && sojimu_matches());
+    CHECK(sojimu_version() == 3 && SOJIMU_VERSION == 3 && sojimu_matches());
     bytes_determined();
     nothing();
     wide_numbers();

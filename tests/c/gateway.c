@@ -9,10 +9,14 @@ static const char other_text[] = "rec X.+{!Ask(int[0..200]).&{?Ok().X}}";
 
 static const char *const names[] = {"Device", "Host"};
 
-/* One conversation: its state, and the bytes that wait on either side. Room for the longest message is enough. */
+/* The bytes that may wait on a side, a scan's worth, and those that are passed on together. Room for the longest message is enough
+ * for either. */
+enum { WAITING = 24 * SOJIMU_MESSAGE, TOGETHER = 4 * SOJIMU_MESSAGE };
+
+/* One conversation: its state, and the bytes that wait on either side. */
 struct conversation {
     struct sojimu_state state;
-    uint8_t waiting[2][SOJIMU_MESSAGE];
+    uint8_t waiting[2][WAITING];
     size_t length[2];
 };
 
@@ -53,58 +57,60 @@ static bool fits(const struct sojimu_table *device, const struct sojimu_table *p
 /* Bytes have come from a side. Takes what there is room for, and says how many that were: the others are still the caller's. */
 static size_t receive(struct conversation *talk, uint32_t side, const char *bytes, size_t length)
 {
-    const size_t room = SOJIMU_MESSAGE - talk->length[side];
+    const size_t room = WAITING - talk->length[side];
     const size_t taken = length < room ? length : room;
     memcpy(talk->waiting[side] + talk->length[side], bytes, taken);
     talk->length[side] += taken;
     return taken;
 }
 
-/* Nothing is due. Can it be once more bytes have come? */
-static bool may_go_on(const struct sojimu_table *protocol, const struct conversation *talk, uint32_t side)
+/* Nothing more is due. Can it be once more bytes have come? */
+static bool may_go_on(const struct sojimu_table *protocol, const struct conversation *talk)
 {
-    if (sojimu_turn(protocol, talk->state).question != 0)
+    const struct sojimu_turn turn = sojimu_turn(protocol, talk->state);
+    if (turn.question != 0)
         return false;
-    if (sojimu_broken(talk->waiting[side], talk->length[side])) {
-        printf("no message from %s\n", names[side]);
+    if (sojimu_broken(talk->waiting[turn.side], talk->length[turn.side])) {
+        printf("no message from %s\n", names[turn.side]);
         return false;
     }
     return true;
 }
 
-/* To the other side; here, to the log. */
-static void pass_on(uint32_t from, const uint8_t *message, size_t length)
+/* The first bytes of a side are used, and those that were forwarded go to the other side; here, to the log. */
+static void pass_on(struct conversation *talk, uint32_t from, size_t used, const uint8_t *out, size_t written)
 {
-    (void)message;
-    printf("from %s: %zu bytes\n", names[from], length);
+    (void)out;
+    if (written > 0)
+        printf("from %s: %zu bytes\n", names[from], written);
+    talk->length[from] -= used;
+    memmove(talk->waiting[from], talk->waiting[from] + used, talk->length[from]);
+}
+
+/* A batch of what waits, of which what was forwarded is passed on. Gives its last answer. */
+static struct sojimu_verdict take(const struct sojimu_table *protocol, struct conversation *talk)
+{
+    uint8_t to_device[TOGETHER], to_host[TOGETHER];
+    const struct sojimu_batch batch =
+        sojimu_batch(protocol, &talk->state, talk->waiting[SOJIMU_DEVICE], talk->length[SOJIMU_DEVICE],
+                     talk->waiting[SOJIMU_HOST], talk->length[SOJIMU_HOST], to_device, sizeof to_device, to_host, sizeof to_host);
+    pass_on(talk, SOJIMU_DEVICE, batch.used_device, to_host, batch.written_to_host);
+    pass_on(talk, SOJIMU_HOST, batch.used_host, to_device, batch.written_to_device);
+    return batch.last;
 }
 
 /* Whenever bytes have come: passes on what is due. Says whether the conversation goes on. */
 static bool pump(const struct sojimu_table *protocol, struct conversation *talk)
 {
-    uint8_t out[SOJIMU_MESSAGE];
-    for (;;) {
-        const struct sojimu_due due =
-            sojimu_due(protocol, talk->state, talk->waiting[SOJIMU_DEVICE], talk->length[SOJIMU_DEVICE],
-                       talk->waiting[SOJIMU_HOST], talk->length[SOJIMU_HOST]);
-        uint8_t *const waiting = talk->waiting[due.side];
-        if (due.length == 0)
-            return may_go_on(protocol, talk, due.side);
-        const struct sojimu_verdict verdict =
-            sojimu_step(protocol, &talk->state, due.side, waiting, due.length, out, sizeof out);
-        if (verdict.outcome == SOJIMU_BLAMED) {
-            printf("%s blamed, reason %d\n", names[verdict.party], verdict.reason);
-            return false;
-        }
-        if (verdict.outcome == SOJIMU_REFUSED) {
-            /* Not met: what sojimu_due hands out is in turn and well formed, and `out` holds it. */
-            printf("refused %d\n", verdict.question);
-            return false;
-        }
-        pass_on(due.side, out, due.length);
-        talk->length[due.side] -= due.length;
-        memmove(waiting, waiting + due.length, talk->length[due.side]);
+    struct sojimu_verdict last;
+    do
+        last = take(protocol, talk);
+    while (last.outcome == SOJIMU_REFUSED && last.question == 16); /* an output was full, and has room again */
+    if (last.outcome == SOJIMU_BLAMED) {
+        printf("%s blamed, reason %d\n", names[last.party], last.reason);
+        return false;
     }
+    return may_go_on(protocol, talk); /* which asks 9 and 10, too */
 }
 
 /* A line has bytes: takes them and passes on what is due, until all are taken. Says whether the conversation goes on. */

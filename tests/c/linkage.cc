@@ -18,12 +18,18 @@ int main()
     const struct sojimu_due due = sojimu_due(&r.table, s, message, sizeof message, nullptr, 0);
     const sojimu_head head = sojimu_front(message, due.length);
     const sojimu_verdict v = sojimu_step(&r.table, &s, SOJIMU_DEVICE, message, due.length, out, sizeof out);
+    sojimu_state t = sojimu_fresh();
+    uint8_t to_host[SOJIMU_MESSAGE] = {};
+    const struct sojimu_batch b =
+        sojimu_batch(&r.table, &t, message, made.length, nullptr, 0, nullptr, 0, to_host, sizeof to_host);
     const struct sojimu_turn turn = sojimu_turn(&r.table, s);
     const struct sojimu_fit f = sojimu_fit(&r.table, &r.table, list, SOJIMU_LIST);
     const bool right = sojimu_matches() && r.question == 0 && sojimu_sound(&r.table) && d.question == 0 && none.states == 0 &&
                        made.length == 14 && same.length == 14 && std::memcmp(message, encoded, sizeof encoded) == 0 &&
                        due.side == SOJIMU_DEVICE && due.length == 14 && head.length == 14 && v.outcome == SOJIMU_FORWARDED &&
                        std::memcmp(message, out, sizeof out) == 0 && s.position == 1 &&
-                       turn.question == 0 && turn.side == SOJIMU_HOST && f.outcome == SOJIMU_FITS && f.count == 3;
+                       b.used_device == 14 && b.used_host == 0 && b.written_to_host == 14 && b.written_to_device == 0 &&
+                       b.last.outcome == SOJIMU_FORWARDED && t.position == 1 &&
+                       std::memcmp(message, to_host, sizeof to_host) == 0 && turn.question == 0 && turn.side == SOJIMU_HOST && f.outcome == SOJIMU_FITS && f.count == 3;
     return right ? 0 : 1;
 }

@@ -5,8 +5,11 @@
 
 typedef void (*call)(void);
 
-/* Calls a function of up to eight words with `top` as the end of its stack. */
-void call_on(uint8_t *top, call function, const uintptr_t words[8]);
+/* How many words the longest call takes, the place for its struct among them, and one more so that their number is even. */
+enum { WORDS = 12 };
+
+/* Calls a function of up to WORDS words with `top` as the end of its stack. */
+void call_on(uint8_t *top, call function, const uintptr_t words[WORDS]);
 
 __asm__(".text\n"
         ".type call_on, @function\n"
@@ -17,6 +20,10 @@ __asm__(".text\n"
         "    movq %rdi, %rsp\n"
         "    movq %rsi, %rax\n"
         "    movq %rdx, %rbx\n"
+        "    pushq 88(%rbx)\n"
+        "    pushq 80(%rbx)\n"
+        "    pushq 72(%rbx)\n"
+        "    pushq 64(%rbx)\n"
         "    pushq 56(%rbx)\n"
         "    pushq 48(%rbx)\n"
         "    movq (%rbx), %rdi\n"
@@ -36,7 +43,7 @@ enum { STACK = 1 << 18 };
 static _Alignas(16) uint8_t stack[STACK];
 
 /* The bytes below the caller's that a call used. The first call is not measured: memcpy and memset are bound in it. */
-static size_t used(call function, const uintptr_t words[8])
+static size_t used(call function, const uintptr_t words[WORDS])
 {
     size_t untouched = 0;
     call_on(stack + STACK, function, words);
@@ -45,10 +52,10 @@ static size_t used(call function, const uintptr_t words[8])
     while (untouched < STACK && stack[untouched] == MARK) {
         untouched++;
     }
-    return STACK - 16 - untouched;
+    return STACK - 8 * (WORDS - 6) - untouched;
 }
 
-static void needs(const char *name, call function, size_t most, const uintptr_t words[8])
+static void needs(const char *name, call function, size_t most, const uintptr_t words[WORDS])
 {
     const size_t bytes = used(function, words);
     printf("%-20s %6zu bytes of %zu\n", name, bytes, most);
@@ -56,7 +63,7 @@ static void needs(const char *name, call function, size_t most, const uintptr_t 
 }
 
 /* A call's words: numbers, and pointers by AT. */
-#define NEEDS(name, most, ...) needs(#name, (call)name, most, (const uintptr_t[8]){__VA_ARGS__})
+#define NEEDS(name, most, ...) needs(#name, (call)name, most, (const uintptr_t[WORDS]){__VA_ARGS__})
 #define AT(pointer) ((uintptr_t)(pointer))
 
 static char deep[8192], deeper[8192], recs[8192], largest[8192], other[8192], blanks[8192];
@@ -115,7 +122,7 @@ static void tables(void)
 static void messages(void)
 {
     static struct sojimu_state state;
-    static uint8_t message[ROOM];
+    static uint8_t message[ROOM], other_out[ROOM];
     const struct sojimu_made made = sojimu_make(&table, 0, 0, message, ROOM);
     const struct sojimu_state start = sojimu_fresh();
     CHECK(made.question == 0);
@@ -128,6 +135,12 @@ static void messages(void)
     state = start;
     memcpy(message, "No", 2);
     NEEDS(sojimu_raw_step, SOJIMU_STACK_TABLE, AT(&table), AT(&state), 0, AT(message), made.length, AT(out), ROOM);
+    for (size_t room = 0; room <= ROOM; room += ROOM) {
+        static struct sojimu_batch given;
+        state = start;
+        NEEDS(sojimu_raw_batch, SOJIMU_STACK_TABLE, AT(&given), AT(&table), AT(&state), AT(message), ROOM, AT(message), ROOM,
+              AT(out), room, AT(other_out), room);
+    }
     NEEDS(sojimu_raw_due, SOJIMU_STACK_TABLE, AT(&table), 0, AT(message), ROOM, AT(message), ROOM);
     NEEDS(sojimu_turn, SOJIMU_STACK_TABLE, AT(&table), 0);
     NEEDS(sojimu_raw_front, SOJIMU_STACK_OTHER, AT(message), ROOM);

@@ -19,12 +19,12 @@ party-same : (side : Party) → code-side (party-code side) ≡ some side
 party-same Device = refl
 party-same Host = refl
 
-standing-same : (x : Standing) → standing-of (standing-code x) ≡ x
+pub standing-same : (x : Standing) → standing-of (standing-code x) ≡ x
 standing-same Running = refl
 standing-same DeviceBlamed = refl
 standing-same HostBlamed = refl
 
-state-same : (s : State) → state-of (s .position) (standing-code (s .standing)) ≡ s
+pub state-same : (s : State) → state-of (s .position) (standing-code (s .standing)) ≡ s
 state-same s = ap (λ (x : Standing). let r : State = record { position = s .position; standing = x } in r) (standing-same (s .standing))
 
 module _ (t : Words) (s : State) (side : Party) (message out : List ℕ) where

@@ -1,11 +1,12 @@
 -- What the calls that take or give codes do. The other calls' promises are those of the crates below.
 -- Assumes nothing.
 use mathlib.Core.Path.{_≡_}
-use mathlib.Core.Bool.{false}
+use mathlib.Core.Bool.{Bool, false, _&&_, cond}
 use mathlib.Core.List.{List, [], _∷_, _++_}
 use mathlib.Core.Option.{Option, none, some}
 use Prim.Native.Nat.{ℕ, zero, suc}
 use lib.ListN.{getD}
+use lib.Dec.{eqb}
 use Rattle.table.specs.View.{Words}
 use Rattle.table.specs.declared.Party.{Party}
 use Rattle.table.specs.declared.Party.the-variants.{Device, Host}
@@ -14,11 +15,13 @@ use Rattle.monitor.specs.Step.{of-state, Told, refused, blamed, forwarded, Outc
 use Rattle.table.specs.Lists.{first-no}
 use Rattle.monitor.specs.Due.{Seen, cut, Awaited, of-side, awaited, first-length, due}
 use Rattle.monitor.specs.Due as D
+use Rattle.monitor.specs.Batch.{Batch, batch-questions, begun, batching}
 use Rattle.fit.specs.Answer.{Answer, Answered}
 use Rattle.sojimu.specs.declared.steps.Verdict.{Verdict}
 use Rattle.sojimu.specs.declared.steps.Due.{Due}
+use Rattle.sojimu.specs.declared.batches.Batch as C
 use Rattle.sojimu.specs.declared.fits.Fit.{Fit}
-use Rattle.sojimu.specs.Codes.{code-side, party-code, state-of, state-bytes, verdict-codes, fit-codes}
+use Rattle.sojimu.specs.Codes.{code-side, party-code, standing-code, standing-of, state-of, state-bytes, verdict-codes, last-codes, fit-codes}
 use denote.Ref.{RefT, now}
 
 -- ---- one step
@@ -41,6 +44,36 @@ crossing r bytes = (verdict-codes (r .verdict), bytes-after (r .verdict) (r .sta
 unfoldable pub step-codes : Words → List ℕ → ℕ → List ℕ → List ℕ → Verdict × List ℕ × List ℕ
 step-codes t bytes side message out =
     crossing (stepping-as (code-side side) t (state-of (getD bytes 0 0) (getD bytes 1 0)) message out) bytes
+
+-- ---- a batch
+
+-- bytes used on each side, bytes written on each output, and the last answer
+unfoldable pub batch-codes : Batch → C.Batch
+batch-codes b =
+    record {
+      «used_device» = b .device .used;
+      «used_host» = b .host .used;
+      «written_to_device» = b .host .written;
+      «written_to_host» = b .device .written;
+      last = last-codes (b .last);
+      reserved = 0 ∷ 0 ∷ 0 ∷ [];
+    }
+
+-- a position and a standing's code stand for this state
+unfoldable pub stand-for : ℕ → ℕ → M.State → Bool
+stand-for position standing s = eqb position (s .position) && eqb (standing-code (standing-of standing)) (standing-code (s .standing))
+
+-- the state's two bytes after a batch: where they stand for that state already, they are as they were
+unfoldable pub bytes-for : M.State → List ℕ → List ℕ
+bytes-for s bytes = cond (stand-for (getD bytes 0 0) (getD bytes 1 0) s) bytes (state-bytes s)
+
+-- the answer, the state's two bytes, the device's output and the host's
+unfoldable pub batch-crossing : Batch → List ℕ → C.Batch × List ℕ × List ℕ × List ℕ
+batch-crossing b bytes = (batch-codes b, bytes-for (b .state) bytes, b .host .output, b .device .output)
+
+unfoldable pub batching-codes : Words → List ℕ → List ℕ → List ℕ → List ℕ → List ℕ → C.Batch × List ℕ × List ℕ × List ℕ
+batching-codes t bytes device host to-device to-host =
+    batch-crossing (batching t (state-of (getD bytes 0 0) (getD bytes 1 0)) device host to-device to-host) bytes
 
 -- ---- the due part
 
@@ -75,6 +108,20 @@ CodesStep =
     (t : Words) (s : M.State) (side : Party) (message out : List ℕ)
     → step-codes t (state-bytes s) (party-code side) message out
     ≡ (verdict-codes (stepping t s side message out .verdict), state-bytes (stepping t s side message out .state), stepping t s side message out .output)
+
+-- over the codes of a state, a batch is the monitor's own, in codes
+abbrev pub CodesBatch : Type 0
+CodesBatch =
+    (t : Words) (s : M.State) (device host to-device to-host : List ℕ) → let b = batching t s device host to-device to-host in
+    batching-codes t (state-bytes s) device host to-device to-host ≡ (batch-codes b, state-bytes (b .state), b .host .output, b .device .output)
+
+-- a batch that 9 or 10 refuses: counts of 0, the question, and every lent byte as it was, whatever the state's two bytes are
+abbrev pub BatchRefused : Type 0
+BatchRefused =
+    (t : Words) (bytes device host to-device to-host : List ℕ) (q : ℕ)
+    → q ≡ first-no (batch-questions t (state-of (getD bytes 0 0) (getD bytes 1 0))) → (q ≡ 0 → ⊥)
+    → batching-codes t bytes device host to-device to-host
+    ≡ (batch-codes (begun (state-of (getD bytes 0 0) (getD bytes 1 0)) to-device to-host (some (refused q))), bytes, to-device, to-host)
 
 -- the side and the length that are told as due are the due part of document 01
 abbrev pub DuePart : Type 0

@@ -71,6 +71,11 @@ verdict-codes (refused q) = record { outcome = 1; question = q; party = 0; reaso
 verdict-codes (blamed side n none) = record { outcome = 2; question = 0; party = party-code side; reason = n; field = 0 }
 verdict-codes (blamed side n (some f)) = record { outcome = 2; question = 0; party = party-code side; reason = n; field = f }
 
+-- the last answer of a batch: 3 where none was due
+abbrev pub last-codes : Option Told → Verdict
+last-codes none = record { outcome = 3; question = 0; party = 0; reason = 0; field = 0 }
+last-codes (some v) = verdict-codes v
+
 -- ---- a message's front; a made message, and the field that is high
 
 -- the question that got a no, or 0, and the length that is announced

@@ -3,6 +3,7 @@
 // refusal changes nothing that was lent, but for the place of the table that is read into, which then holds the empty one. A number that is too large for what it names is refused, and never narrowed.
 ghost use mathlib.Core.Path.{_≡_};
 
+mod batches;
 mod fits;
 mod messages;
 mod steps;
@@ -12,7 +13,7 @@ mod texts;
 // The header's number (SOJIMU_VERSION): raised whenever a struct or a call changes.
 #[no_mangle]
 pub extern "C" fn sojimu_version() -> u32
-    ensures { λ r. ⌜ r ≡ 2 ⌝ }
+    ensures { λ r. ⌜ r ≡ 3 ⌝ }
 {
-    2
+    3
 }

@@ -108,7 +108,7 @@ fn keep(state: &mut [u8; 2], r: Stepped)
     }
 }
 
-fn put(state: &mut [u8; 2], s: monitor::State)
+pub fn put(state: &mut [u8; 2], s: monitor::State)
     ensures { λ _. ⌜ now (state .exit) ≡ state-bytes s ⌝ }
 {
     let standing = s.standing;
@@ -157,7 +157,7 @@ fn first_of(side: u32, bytes: &[u8]) -> Due
 
 // ---- codes
 
-fn state_of(position: u8, standing: u8) -> monitor::State
+pub fn state_of(position: u8, standing: u8) -> monitor::State
     ensures { λ r. ⌜ r ≡ state-of position standing ⌝ }
 {
     monitor::State {
@@ -166,7 +166,7 @@ fn state_of(position: u8, standing: u8) -> monitor::State
     }
 }
 
-fn standing_of(code: u8) -> Standing
+pub fn standing_of(code: u8) -> Standing
     ensures { λ r. ⌜ r ≡ standing-of code ⌝ }
 {
     match code {
@@ -176,7 +176,7 @@ fn standing_of(code: u8) -> Standing
     }
 }
 
-fn standing_code(standing: Standing) -> u8
+pub fn standing_code(standing: Standing) -> u8
     ensures { λ r. ⌜ r ≡ standing-code standing ⌝ }
 {
     match standing {
@@ -210,7 +210,7 @@ fn turn_codes(t: monitor::Turn) -> Turn
     }
 }
 
-fn verdict_codes(verdict: monitor::Verdict) -> Verdict
+pub fn verdict_codes(verdict: monitor::Verdict) -> Verdict
     ensures { λ r. ⌜ r ≡ verdict-codes (told verdict) ⌝ }
 {
     match verdict {

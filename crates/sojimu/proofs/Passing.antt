@@ -1,0 +1,97 @@
+-- A batch over codes: what the parts of the call give, and over the codes of a state the monitor's own batch.
+-- Assumes nothing.
+use mathlib.Core.Path.{_≡_, refl, sym, ap, ap₂, _∙_}
+use mathlib.Core.Bool.{Bool, true, false, cond}
+use mathlib.Core.List.{List, [], _∷_}
+use mathlib.Core.Option.{some}
+use Prim.Native.Nat.{ℕ}
+use lib.ListN.{getD}
+use lib.Dec.{eqb}
+use borrow.Author.Tests.{ne-eqb, eq-eqb, eqb-true}
+use Rattle.table.specs.View.{Words}
+use Rattle.table.proofs.Lists.{both, join, left-fails}
+use Rattle.monitor.specs.declared.State.{State}
+use Rattle.monitor.specs.declared.batch.Batched.{Batched}
+use Rattle.monitor.specs.Step.{refused}
+use Rattle.monitor.specs.Batch.{Batch, begun, batching, last-of, batched}
+use Rattle.monitor.proofs.Batching.{kept-out}
+use Rattle.sojimu.specs.declared.steps.Verdict.{Verdict}
+use Rattle.sojimu.specs.declared.batches.Batch as C
+use Rattle.sojimu.specs.Codes.{standing-code, standing-of, state-of, state-bytes, last-codes}
+use Rattle.sojimu.specs.Calls.{batch-codes, stand-for, bytes-for, batch-crossing, batching-codes, CodesBatch, BatchRefused}
+use Rattle.sojimu.proofs.Advance.{standing-same, state-same}
+
+-- ---- whether two bytes stand for a state
+
+module _ (p c : ℕ) (s : State) where
+  pub other-place : (p ≡ s .position → ⊥) → false ≡ stand-for p c s
+  unfolding stand-for
+  other-place n = sym (left-fails (eqb (standing-code (standing-of c)) (standing-code (s .standing))) (ne-eqb p (s .position) n))
+
+  pub same-place : p ≡ s .position → eqb (standing-code (standing-of c)) (standing-code (s .standing)) ≡ stand-for p c s
+  unfolding stand-for
+  same-place e = rw (eq-eqb p (s .position) e)
+
+module _ (s : State) (bytes : List ℕ) where
+  pub bytes-left : stand-for (getD bytes 0 0) (getD bytes 1 0) s ≡ true → bytes ≡ bytes-for s bytes
+  unfolding bytes-for
+  bytes-left e = rw e
+
+  pub bytes-put : stand-for (getD bytes 0 0) (getD bytes 1 0) s ≡ false → state-bytes s ≡ bytes-for s bytes
+  unfolding bytes-for
+  bytes-put e = rw e
+
+-- ---- the call
+
+module _ (t : Words) (s : State) (bytes device host to-device to-host : List ℕ) (r : Batched) (after td th : List ℕ) (last : Verdict) where
+  pub batch-crossed : s ≡ state-of (getD bytes 0 0) (getD bytes 1 0) → batched r td th ≡ batching t s device host to-device to-host
+      → after ≡ bytes-for (r .state) bytes → last ≡ last-codes (last-of (r .passed .last))
+      → (
+        record {
+          «used_device» = r .passed .device .used;
+          «used_host» = r .passed .host .used;
+          «written_to_device» = r .passed .host .written;
+          «written_to_host» = r .passed .device .written;
+          last = last;
+          reserved = 0 ∷ 0 ∷ 0 ∷ [];
+        },
+        after,
+        td,
+        th,
+      )
+      ≡ batching-codes t bytes device host to-device to-host
+  unfolding batching-codes batch-crossing batch-codes batched
+  batch-crossed e h k l =
+      rw (k, l) (ap (λ (b : Batch). batch-crossing b bytes) (h ∙ ap (λ (s : State). batching t s device host to-device to-host) e))
+
+-- ---- over the codes of a state
+
+kept-bytes : (s x : State) → bytes-for x (state-bytes s) ≡ state-bytes x
+unfolding bytes-for stand-for
+kept-bytes s x = by (stand-for (s .position) (standing-code (s .standing)) x) refl
+  where
+    by : (b : Bool) → stand-for (s .position) (standing-code (s .standing)) x ≡ b → cond b (state-bytes s) (state-bytes x) ≡ state-bytes x
+    by false e = refl
+    by true e =
+        let p = both (eqb (s .position) (x .position)) (eqb (standing-code (standing-of (standing-code (s .standing)))) (standing-code (x .standing))) e in
+        ap₂ (λ a c. a ∷ c ∷ []) (eqb-true (s .position) (x .position) (p .0))
+        (sym (ap standing-code (standing-same (s .standing))) ∙ eqb-true _ (standing-code (x .standing)) (p .1))
+
+pub codes-batch : CodesBatch
+unfolding batching-codes batch-crossing
+codes-batch t s device host to-device to-host =
+    rw (state-same s) (rw (kept-bytes s (batching t s device host to-device to-host .state)))
+
+-- ---- a batch that is refused
+
+own-bytes : (p c : ℕ) → stand-for p c (state-of p c) ≡ true
+unfolding stand-for
+own-bytes p c = join (eq-eqb p p refl) (eq-eqb (standing-code (standing-of c)) (standing-code (standing-of c)) refl)
+
+pub batch-refused : BatchRefused
+unfolding batching-codes batch-crossing begun
+batch-refused t bytes device host to-device to-host q e n =
+    let s = state-of (getD bytes 0 0) (getD bytes 1 0) in
+    ap (λ (b : Batch). batch-crossing b bytes) (sym (kept-out t device host s to-device to-host q e n))
+    ∙ ap (λ (after : List ℕ). (batch-codes (begun s to-device to-host (some (refused q))), after, to-device, to-host))
+    (sym (bytes-left s bytes (own-bytes (getD bytes 0 0) (getD bytes 1 0))))
