@@ -1,13 +1,18 @@
 //! A gateway in small: one device, one host, and the bytes that come from either.
 
-use sojimu::{message, Fitting, Party, Standing, State, Table, Verdict, LONGEST_LIST, LONGEST_MESSAGE};
+use sojimu::{message, Fitting, Party, Question, Standing, State, Table, Verdict, LONGEST_LIST, LONGEST_MESSAGE};
 use std::io::{self, Write};
 
 const PROTOCOL: &[u8] = b"rec X.+{!Ask(int[0..100]).&{?Ok().X},!Quit().end}";
 const DEVICE: &[u8] = b"rec X.+{!Ask(int[0..50]).&{?Ok().X,?Busy().X}}";
 const OTHER: &[u8] = b"rec X.+{!Ask(int[0..200]).&{?Ok().X}}";
 
-/// One conversation: its state, and the bytes that wait on either side. Room for the longest message is enough.
+/// The bytes that may wait on a side: a scan's worth. Room for the longest message is enough.
+pub const WAITING: usize = 24 * LONGEST_MESSAGE;
+/// The bytes that are passed on together. Here too, room for the longest message is enough.
+pub const TOGETHER: usize = 4 * LONGEST_MESSAGE;
+
+/// One conversation: its state, and the bytes that wait on either side.
 #[derive(Default)]
 pub struct Conversation {
     state: State,
@@ -98,41 +103,38 @@ pub fn hear(protocol: &Table, talk: &mut Conversation, side: Party, bytes: &[u8]
 /// Bytes have come from a side. Takes what there is room for, and says how many that were: the others are still the caller's.
 fn receive(talk: &mut Conversation, side: Party, bytes: &[u8]) -> usize {
     let waiting = talk.waiting(side);
-    let taken = bytes.len().min(LONGEST_MESSAGE - waiting.len());
+    let taken = bytes.len().min(WAITING - waiting.len());
     waiting.extend(&bytes[..taken]);
     taken
 }
 
 /// Whenever bytes have come: passes on what is due. Says whether the conversation goes on.
 fn pump(protocol: &Table, talk: &mut Conversation, log: &mut dyn Write) -> io::Result<bool> {
-    let mut out = [0; LONGEST_MESSAGE];
+    let (mut to_device, mut to_host) = ([0; TOGETHER], [0; TOGETHER]);
     loop {
-        let due = protocol.due(talk.state, &talk.device, &talk.host);
-        let (side, length) = (due.side, due.message.len());
-        if length == 0 {
-            return may_go_on(protocol, talk, side, log);
-        }
-        match protocol.step(&mut talk.state, side, due.message, &mut out) {
-            Verdict::Forwarded => pass_on(side, &out[..length], log)?,
-            // Not met: what `due` hands out is in turn and well formed, and `out` holds it.
-            Verdict::Refused(question) => {
-                writeln!(log, "refused {}", question.0)?;
-                return Ok(false);
-            }
-            Verdict::Blamed(party, reason) => {
+        let batch = protocol.batch(&mut talk.state, &talk.device, &talk.host, &mut to_device, &mut to_host);
+        talk.device.drain(..batch.used_device);
+        talk.host.drain(..batch.used_host);
+        pass_on(Party::Device, &to_host[..batch.written_to_host], log)?;
+        pass_on(Party::Host, &to_device[..batch.written_to_device], log)?;
+        match batch.last {
+            // An output was full. What it held is passed on, so it has room again.
+            Some(Verdict::Refused(Question(16))) => {}
+            Some(Verdict::Blamed(party, reason)) => {
                 writeln!(log, "{party:?} blamed, reason {}", reason.number())?;
                 return Ok(false);
             }
+            // None is due. Of 9 and 10 `turn` tells too.
+            _ => return may_go_on(protocol, talk, log),
         }
-        talk.waiting(side).drain(..length);
     }
 }
 
 /// Nothing is due. Can it be once more bytes have come?
-fn may_go_on(protocol: &Table, talk: &mut Conversation, side: Party, log: &mut dyn Write) -> io::Result<bool> {
-    if protocol.turn(talk.state).is_err() {
+fn may_go_on(protocol: &Table, talk: &mut Conversation, log: &mut dyn Write) -> io::Result<bool> {
+    let Ok(side) = protocol.turn(talk.state) else {
         return Ok(false);
-    }
+    };
     if message::broken(talk.waiting(side)) {
         writeln!(log, "no message from {side:?}")?;
         return Ok(false);
@@ -140,7 +142,10 @@ fn may_go_on(protocol: &Table, talk: &mut Conversation, side: Party, log: &mut d
     Ok(true)
 }
 
-/// To the other side; here, to the log.
-fn pass_on(from: Party, message: &[u8], log: &mut dyn Write) -> io::Result<()> {
-    writeln!(log, "from {from:?}: {} bytes", message.len())
+/// Messages, one behind the other, to the other side; here, to the log.
+fn pass_on(from: Party, messages: &[u8], log: &mut dyn Write) -> io::Result<()> {
+    if messages.is_empty() {
+        return Ok(());
+    }
+    writeln!(log, "from {from:?}: {} bytes", messages.len())
 }

@@ -1,5 +1,6 @@
 //! Every example of document 01, and those of the requests in document 02 that are built.
 
+use sojimu::second::batch::{batch, Batch};
 use sojimu::second::fit::{fit, shows_no_fit, Answer};
 use sojimu::second::machine::{self, Machine, Move};
 use sojimu::second::message;
@@ -282,6 +283,44 @@ fn the_due_part() {
     assert_eq!(due(&p, &at(3, Standing::Running), &device, &host), part(Side::Device, 0));
     assert_eq!(due(&p, &at(1, Standing::HostBlamed), &device, &host), part(Side::Device, 0));
     assert_eq!(due(&p, &at(2, Standing::Running), &device, &host), part(Side::Device, 0));
+}
+
+// Document 02, request 2: a scan's worth of messages together
+
+#[test]
+fn a_batch() {
+    let p = table(P);
+    let device = [ask(1), ask(101)].concat();
+    let host = [bare(b"Ok"), bare(b"Ok")].concat();
+    let mut state = State::fresh();
+    let (mut to_device, mut to_host) = ([0xEE; 10], [0xEE; 28]);
+    let blamed = Some(Verdict::Blamed(Side::Device, Reason::Range(0)));
+    let wanted = Batch { used_device: 28, used_host: 9, written_to_device: 9, written_to_host: 14, last: blamed };
+    assert_eq!(batch(&p, &mut state, &device, &host, &mut to_device, &mut to_host), wanted);
+    assert_eq!(state, State { position: 0, standing: Standing::DeviceBlamed });
+    assert_eq!((to_device[..9].to_vec(), to_device[9]), (bare(b"Ok"), 0xEE));
+    assert_eq!((&to_host[..14], &to_host[14..]), (&ask(1)[..], &[0xEE; 14][..]));
+}
+
+#[test]
+fn the_last_answer_of_a_batch() {
+    let p = table(P);
+    let last = |position, standing, device: &[u8], host: &[u8], room: usize| {
+        batch(&p, &mut State { position, standing }, device, host, &mut vec![0; room], &mut vec![0; room]).last
+    };
+    use Standing::{HostBlamed, Running};
+    // With no step tried, none was due: early, not all there, at an end.
+    assert_eq!(last(0, Running, b"", &bare(b"Ok"), 99), None);
+    assert_eq!(last(0, Running, &ASK_100[..13], b"", 99), None);
+    assert_eq!(last(2, Running, &ASK_100, b"", 99), None);
+    // Else that of the last step, also where none is due after it.
+    assert_eq!(last(0, Running, &ASK_100, b"", 99), Some(Verdict::Forwarded));
+    assert_eq!(last(0, Running, &bare(b"Quit"), &bare(b"Ok"), 99), Some(Verdict::Forwarded));
+    assert_eq!(last(0, Running, &ASK_100, b"", 13), Some(Verdict::Refused(16)));
+    assert_eq!(last(0, Running, &[ask(1), ask(2)].concat(), &bare(b"Ok"), 27), Some(Verdict::Refused(16)));
+    // 9 and 10 are asked first.
+    assert_eq!(last(3, HostBlamed, b"", b"", 0), Some(Verdict::Refused(9)));
+    assert_eq!(last(2, HostBlamed, b"", b"", 0), Some(Verdict::Refused(10)));
 }
 
 // Device and monitor together

@@ -6,7 +6,7 @@ mod compiled;
 mod gateway;
 
 use compiled::{file, printed_by};
-use gateway::{hear, Conversation};
+use gateway::{hear, Conversation, TOGETHER, WAITING};
 use sojimu::{Party, Table};
 
 fn contents(name: &str) -> String {
@@ -49,6 +49,12 @@ fn heard(protocol: &[u8], side: Party, bytes: &[u8], piece: usize) -> (String, b
     (String::from_utf8(log).unwrap(), goes_on)
 }
 
+/// How many bytes were passed on from the device at a time.
+fn passed_on(log: &str) -> Vec<usize> {
+    let bytes = |line: &str| line.strip_prefix("from Device: ")?.strip_suffix(" bytes")?.parse().ok();
+    log.lines().map(|line| bytes(line).unwrap_or_else(|| panic!("{line}"))).collect()
+}
+
 const SAYS: &[u8] = b"rec X.+{!Say(text[0..64]).X}";
 
 #[test]
@@ -56,11 +62,23 @@ fn what_waits_is_bounded() {
     let message = [b"Say\0\0\0\0\0\x01\x01\0\0\0\x40".as_slice(), &[b' '; 64]].concat();
     let many = message.repeat(100);
     for piece in [1, 9, 78, 285, 286, many.len()] {
-        assert_eq!(heard(SAYS, Party::Device, &many, piece), ("from Device: 78 bytes\n".repeat(100), true));
+        let (log, goes_on) = heard(SAYS, Party::Device, &many, piece);
+        assert!(goes_on);
+        assert_eq!(passed_on(&log).iter().sum::<usize>(), many.len());
         // It is never the host's turn.
         assert_eq!(heard(SAYS, Party::Host, &many, piece), ("too much from Host\n".into(), false));
-        assert_eq!(heard(SAYS, Party::Host, &many[..285], piece), (String::new(), true));
+        assert_eq!(heard(SAYS, Party::Host, &many[..WAITING], piece), (String::new(), true));
     }
+}
+
+#[test]
+fn an_output_that_is_full_is_passed_on() {
+    let message = [b"Say\0\0\0\0\0\x01\x01\0\0\0\x40".as_slice(), &[b' '; 64]].concat();
+    let (most, whole) = (TOGETHER / message.len() * message.len(), 80 * message.len());
+    let (log, goes_on) = heard(SAYS, Party::Device, &message.repeat(80), whole);
+    let mut wanted = vec![most; whole / most];
+    wanted.push(whole % most);
+    assert_eq!((passed_on(&log), goes_on), (wanted, true));
 }
 
 #[test]

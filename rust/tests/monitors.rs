@@ -1,12 +1,12 @@
 //! The monitors that the benchmarks time are right: on random inputs they agree with the second implementation.
 
-use sojimu::bench::by_hand::{self, Place};
-use sojimu::bench::inputs::{small, Input};
+use sojimu::bench::by_hand::{self, Pass, Place};
+use sojimu::bench::inputs::{scanner, small, Input};
 use sojimu::bench::plain;
 use sojimu::second::random::*;
 use sojimu::second::table::Raw;
-use sojimu::second::{message, monitor, text};
-use sojimu::{Party, Question, Reason, Standing, State, Table, Verdict};
+use sojimu::second::{batch, message, monitor, text};
+use sojimu::{Batch, Party, Question, Reason, Standing, State, Table, Verdict};
 
 fn party(side: monitor::Side) -> Party {
     match side {
@@ -24,6 +24,20 @@ fn verdict(verdict: monitor::Verdict) -> Verdict {
         monitor::Verdict::Blamed(side, monitor::Reason::Range(field)) => {
             Verdict::Blamed(party(side), Reason::OutOfRange(field as u8))
         }
+    }
+}
+
+fn batch(batch: batch::Batch) -> Batch {
+    let batch::Batch { used_device, used_host, written_to_device, written_to_host, last } = batch;
+    Batch { used_device, used_host, written_to_device, written_to_host, last: last.map(verdict) }
+}
+
+/// Where the scanner's conversation is at a state of its table.
+fn pass(state: monitor::State) -> Pass {
+    let passes = [Pass::Idle, Pass::Started, Pass::Scanning, Pass::AtEdge, Pass::Over, Pass::Over];
+    match state.standing {
+        monitor::Standing::Running => passes[state.position],
+        monitor::Standing::DeviceBlamed | monitor::Standing::HostBlamed => Pass::Stopped,
     }
 }
 
@@ -78,12 +92,38 @@ fn the_monitor_written_by_hand() {
 }
 
 #[test]
+fn the_scanners_monitor_written_by_hand() {
+    let lists = text::read(&scanner().text).unwrap();
+    for seed in 0..4000 {
+        let mut random = Random::new(seed);
+        let position = random.below(lists.states.len());
+        let standing = if random.one_in(20) { monitor::Standing::HostBlamed } else { monitor::Standing::Running };
+        let mut state = monitor::State { position, standing };
+        let mut place = pass(state);
+        let (messages, faults) = (*random.pick(&[2, 10, 100]), *random.pick(&[0, 4, 30]));
+        let Waiting { mut device, mut host } = walk(&mut random, &lists, position, messages, faults);
+        ragged(&mut random, &lists, &mut device);
+        ragged(&mut random, &lists, &mut host);
+        let mut room = |whole: usize| if random.one_in(4) { random.below(whole + 1) } else { whole };
+        let mut outputs = [vec![0xEE; room(host.len())], vec![0xEE; room(device.len())]];
+        let mut others = outputs.clone();
+        let [to_device, to_host] = &mut outputs;
+        let one = by_hand::scan(&mut place, &device, &host, to_device, to_host);
+        let [to_device, to_host] = &mut others;
+        let wanted = batch::batch(&lists, &mut state, &device, &host, to_device, to_host);
+        assert_eq!((one, place), (batch(wanted), pass(state)), "seed {seed}");
+        assert_eq!(outputs, others, "seed {seed}");
+    }
+}
+
+#[test]
 fn the_inputs_are_of_the_sizes_they_say() {
     let sizes = Input::all().map(|input| (input.table().states, input.table().branches));
     assert_eq!(sizes, [(3, 3), (12, 20), (32, 128)]);
     let largest = Input::all()[2].table();
     assert!(largest.fields.iter().all(|&count| count == 4));
-    for input in Input::all() {
+    assert_eq!((scanner().table().states, scanner().table().branches), (6, 9));
+    for input in Input::all().into_iter().chain([scanner()]) {
         let (start, round) = input.conversation();
         assert_eq!(start.standing, Standing::RUNNING);
         assert!(!round.is_empty());

@@ -1,5 +1,6 @@
-//! Random texts, tables, messages and conversations through the second implementation: what the document says of all of them.
+//! Random texts, tables, messages, conversations and batches through the second implementation: what the documents say of all of them.
 
+use sojimu::second::batch::{batch, Batch};
 use sojimu::second::brute::explore;
 use sojimu::second::fit::{fit, right, shows_no_fit, Answer};
 use sojimu::second::machine::{saying, says};
@@ -311,6 +312,65 @@ fn due_parts() {
     }
     println!("due {found}, nothing due {nothing}");
     assert!(found > 500 && nothing > 500);
+}
+
+#[test]
+fn batches() {
+    let (mut untried, mut forwarded, mut blamed) = (0, 0, 0);
+    for seed in 0..rounds(600) {
+        let mut random = Random::new(seed);
+        let table = if random.one_in(4) { sound_table(&mut random, 8, 20) } else { endless_table(&mut random, 8, 20) };
+        let start = State { position: random.below(table.states.len()), standing: Standing::Running };
+        let faults = *random.pick(&[0, 4, 40]);
+        let Waiting { device, host } = walk(&mut random, &table, start.position, 60, faults);
+        let (mut to_device, mut to_host) = (vec![0xEE; host.len()], vec![0xEE; device.len()]);
+        let mut state = start;
+        let whole = batch(&table, &mut state, &device, &host, &mut to_device, &mut to_host);
+        assert_passed_on(&to_device, &host, whole.written_to_device);
+        assert_passed_on(&to_host, &device, whole.written_to_host);
+        if faults == 0 {
+            assert_eq!((whole.written_to_device, whole.written_to_host), (host.len(), device.len()));
+        }
+        match whole.last {
+            None => untried += 1,
+            Some(Verdict::Forwarded) => forwarded += 1,
+            Some(Verdict::Blamed(..)) => blamed += 1,
+            Some(Verdict::Refused(question)) => panic!("seed {seed}: refused {question}"),
+        }
+        let mut again = start;
+        let parts = with_little_room(&table, &mut again, &device, &host);
+        assert_eq!((parts, again), (whole, state), "seed {seed}");
+    }
+    println!("untried {untried}, forwarded {forwarded}, blamed {blamed}");
+    assert!(untried > 20 && forwarded > 100 && blamed > 100);
+}
+
+/// The output opens with so many of the bytes that waited, and the rest of it is unchanged.
+fn assert_passed_on(output: &[u8], waiting: &[u8], written: usize) {
+    let (passed, rest) = output.split_at(written);
+    assert_eq!(passed, &waiting[..written]);
+    assert!(rest.iter().all(|&byte| byte == 0xEE));
+}
+
+/// What batches come to whose outputs hold one message of any sort: whenever 16 has refused, the next has room again.
+fn with_little_room(table: &Table, state: &mut State, device: &[u8], host: &[u8]) -> Batch {
+    let mut all = Batch { used_device: 0, used_host: 0, written_to_device: 0, written_to_host: 0, last: None };
+    loop {
+        let (mut to_device, mut to_host) = ([0xEE; 285], [0xEE; 285]);
+        let (device, host) = (&device[all.used_device..], &host[all.used_host..]);
+        let batch = batch(table, state, device, host, &mut to_device, &mut to_host);
+        assert_passed_on(&to_device, host, batch.written_to_device);
+        assert_passed_on(&to_host, device, batch.written_to_host);
+        all.used_device += batch.used_device;
+        all.used_host += batch.used_host;
+        all.written_to_device += batch.written_to_device;
+        all.written_to_host += batch.written_to_host;
+        all.last = batch.last.or(all.last);
+        if batch.last != Some(Verdict::Refused(16)) {
+            return all;
+        }
+        assert!(batch.used_device + batch.used_host > 0);
+    }
 }
 
 fn first_message(bytes: &[u8]) -> usize {

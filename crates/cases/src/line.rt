@@ -1,4 +1,4 @@
-// One line of a file of cases: `COMMAND given = wanted # comment`. The command is one letter from g to z. Given and wanted are numbers
+// One line of a file of cases: `COMMAND given = wanted # comment`. The command is one small letter. Given and wanted are numbers
 // in hexadecimal, with capital letters; `20*5` is the number 0x20 five times, and a text in double quotes stands for its bytes.
 
 // How far a line is read. Its numbers stand in an array, and what is beyond the array is dropped: the first `given` of them are
@@ -61,7 +61,7 @@ fn take_mark(line: Line, b: u8) -> Line {
     match b {
         b'#' | b'"' => l.mode = b,
         b'=' => l.given = l.total,
-        b'g'..=b'z' => l.command = b,
+        b'a'..=b'z' => l.command = b,
         _ => {}
     }
     l

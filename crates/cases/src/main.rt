@@ -1,10 +1,14 @@
-// Puts the steps of the file `monitor` through `monitor::advance`, the step over a lent state, which no export can reach: an enum
-// cannot cross to C. A step that goes wrong is printed with its line's number; the last line counts the steps.
+// Puts the steps of the file `monitor` through `monitor::advance`, the step over a lent state, and the batches of the file `batches`
+// through `monitor::batch::advance`, the batch over one. No export can reach either: an enum cannot cross to C. A step or a batch
+// that goes wrong is printed by its letter and its line's number; the last line counts them.
 //   j edits                    the table of the lines after it: the empty table with these edits, each of them column, index and value
 //   g                          the state of a fresh conversation
 //   s position standing side room message = verdict position standing output     a step from the state that the line gives
 //   u side room message = verdict position standing output                       a step from the state that the line before it left
-// What j and g want, and the lines w, which ask for the due part, are left to the tests in Rust: 32 of the file's 624 cases.
+//   b position standing room room length device.. host.. = counts answer position standing output output      a batch from that state
+//   c room room length device.. host.. = counts answer position standing output output                        or from the one left
+// What j and g want, the lines w, which ask for the due part, and three lines b, whose standing is no code, are left to the tests
+// in Rust: 32 of the 624 cases of `monitor` and 10 of the 94 of `batches`.
 ghost use Prim.Native.Nat.{_≤_};
 use libc::STDOUT_FILENO;
 use line::Line;
@@ -13,13 +17,15 @@ use std::num::wrapping_add_u64;
 use step::Outcome;
 use table::Table;
 
+mod batch;
 mod line;
 mod step;
 
-// How many lines and steps there were, and how many of the steps went wrong.
+// How many lines, steps and batches there were, and how many steps and batches went wrong.
 struct Tally {
     lines: u64,
     steps: u64,
+    batches: u64,
     wrong: u64,
 }
 
@@ -61,7 +67,7 @@ fn build(numbers: &[u64; 512], given: usize) -> Table {
     t
 }
 
-// Of each number its lowest byte. In a step only the room is above 0xFF.
+// Of each number its lowest byte. In a step or a batch only a room is above 0xFF.
 fn bytes_of(numbers: &[u64; 512]) -> [u8; 512] {
     let mut bytes = [0u8; 512];
     let mut k: usize = 0;
@@ -95,7 +101,21 @@ fn step_of(l: Line, from: usize, t: &Table, s: State, numbers: &[u64; 512]) -> O
     step::step(t, s, side, room, message, wanted)
 }
 
-// What comes of a line after one that ended in the state. A line with no step is right.
+// The batch of a line whose rooms begin at `from`, the length of the device's bytes and the bytes after them.
+fn batch_of(l: Line, from: usize, t: &Table, s: State, numbers: &[u64; 512]) -> Outcome
+    requires { ⌜ from ≤ 2 ⌝ }
+{
+    let bytes = bytes_of(numbers);
+    let middle = from + 3 + (numbers[from + 2] % 512) as usize;
+    let device = part(&bytes, from + 3, middle);
+    let host = part(&bytes, middle, l.given);
+    let wanted = part(&bytes, l.given, l.total);
+    let to_device = numbers[from];
+    let to_host = numbers[from + 1];
+    batch::batch(t, s, to_device, to_host, device, host, wanted)
+}
+
+// What comes of a line after one that ended in the state. A line with no step and no batch is right.
 fn outcome(l: Line, t: &Table, state: State, numbers: &[u64; 512]) -> Outcome {
     let command = l.command;
     match command {
@@ -105,27 +125,47 @@ fn outcome(l: Line, t: &Table, state: State, numbers: &[u64; 512]) -> Outcome {
         }
         b's' => step_of(l, 4, t, step::state_of(numbers[0], numbers[1]), numbers),
         b'u' => step_of(l, 2, t, state, numbers),
+        b'b' => batch_of(l, 2, t, step::state_of(numbers[0], numbers[1]), numbers),
+        b'c' => batch_of(l, 0, t, state, numbers),
         _ => Outcome { right: true, state },
     }
 }
 
-// The tally with a line more. No count wraps: the file has at most 65,536 bytes.
+// A line's command; none where the standing of a batch is no code, for it cannot be a `Standing`.
+fn command_of(command: u8, standing: u64) -> u8 {
+    if command == b'b' && 2 < standing {
+        return 0;
+    }
+    command
+}
+
+// The tally with a line more. No count wraps: at most 65,536 bytes of a file are read.
 fn counted(tally: Tally, command: u8, right: bool) -> Tally {
     let mut r = tally;
     r.lines = wrapping_add_u64(r.lines, 1);
     if command == b's' || command == b'u' {
         r.steps = wrapping_add_u64(r.steps, 1);
     }
+    if command == b'b' || command == b'c' {
+        r.batches = wrapping_add_u64(r.batches, 1);
+    }
     if !right {
         r.wrong = wrapping_add_u64(r.wrong, 1);
-        io::write_all(STDOUT_FILENO, b"wrong: line ");
-        io::print_decimal(STDOUT_FILENO, r.lines);
-        io::write_all(STDOUT_FILENO, b"\n");
+        print_wrong(command, r.lines);
     }
     r
 }
 
-// Every line of the file.
+fn print_wrong(command: u8, line: u64) {
+    let letter = [command];
+    io::write_all(STDOUT_FILENO, b"wrong ");
+    io::write_all(STDOUT_FILENO, &letter);
+    io::write_all(STDOUT_FILENO, b": line ");
+    io::print_decimal(STDOUT_FILENO, line);
+    io::write_all(STDOUT_FILENO, b"\n");
+}
+
+// Every line of a file.
 fn run(s: &[u8]) -> Tally {
     let mut numbers = [0u64; 512];
     let mut t = table::empty();
@@ -134,6 +174,7 @@ fn run(s: &[u8]) -> Tally {
     let mut tally = Tally {
         lines: 0,
         steps: 0,
+        batches: 0,
         wrong: 0,
     };
     let mut at: usize = 0;
@@ -145,6 +186,7 @@ fn run(s: &[u8]) -> Tally {
             continue;
         }
         l = line::end(l, &mut numbers);
+        l.command = command_of(l.command, numbers[1]);
         if l.command == b'j' {
             t = build(&numbers, l.given);
         }
@@ -156,13 +198,21 @@ fn run(s: &[u8]) -> Tally {
     tally
 }
 
-fn main() {
+// The file of that name.
+fn run_file(name: &[u8]) -> Tally {
     let mut buf = io::large_buffer();
-    let n = io::read_full(os::open_read(b"monitor"), &mut buf);
-    let r = run(&buf[..n]);
+    let n = io::read_full(os::open_read(name), &mut buf);
+    run(&buf[..n])
+}
+
+fn main() {
+    let a = run_file(b"monitor");
+    let b = run_file(b"batches");
     io::write_all(STDOUT_FILENO, b"monitor: ");
-    io::print_decimal(STDOUT_FILENO, r.steps);
+    io::print_decimal(STDOUT_FILENO, a.steps);
     io::write_all(STDOUT_FILENO, b" steps, ");
-    io::print_decimal(STDOUT_FILENO, r.wrong);
+    io::print_decimal(STDOUT_FILENO, b.batches);
+    io::write_all(STDOUT_FILENO, b" batches, ");
+    io::print_decimal(STDOUT_FILENO, wrapping_add_u64(a.wrong, b.wrong));
     io::write_all(STDOUT_FILENO, b" wrong\n");
 }

@@ -15,7 +15,7 @@ pub struct Outcome {
     pub state: State,
 }
 
-// The call that the program is for: the state is lent to it.
+// The call: the state is lent to it.
 fn advanced(t: &Table, s: State, side: Party, message: &[u8], out: &mut [u8]) -> Stepped
     ensures { λ r. ⌜ outcome r (now (out .exit)) ≡ stepping (now (t .entry)) s side (now (message .entry)) (now (out .entry)) ⌝ }
 {
@@ -58,7 +58,7 @@ fn is_wanted(r: Stepped, out: &[u8], wanted: &[u8]) -> bool {
     same(&v, &wanted[0..4]) && same(&s, &wanted[4..6]) && same(out, &wanted[6..])
 }
 
-fn same(a: &[u8], b: &[u8]) -> bool {
+pub fn same(a: &[u8], b: &[u8]) -> bool {
     if a.len() != b.len() {
         return false;
     }
@@ -72,7 +72,7 @@ fn same(a: &[u8], b: &[u8]) -> bool {
     true
 }
 
-fn verdict_numbers(v: Verdict) -> [u8; 4] {
+pub fn verdict_numbers(v: Verdict) -> [u8; 4] {
     match v {
         Verdict::Refused(q) => [0, q, 0, 0],
         Verdict::Blamed(p, why) => blame_numbers(party_number(p), why),
@@ -102,7 +102,7 @@ fn party_of(n: u64) -> Party {
     }
 }
 
-fn standing_number(s: Standing) -> u8 {
+pub fn standing_number(s: Standing) -> u8 {
     match s {
         Standing::Running => 0,
         Standing::DeviceBlamed => 1,

@@ -1,4 +1,4 @@
-//! Protocols of three sizes, with a conversation that goes round in each.
+//! Protocols of three sizes and the scanner's, with a conversation that goes round in each.
 
 use crate::proved::{Party, State, Table};
 
@@ -44,6 +44,12 @@ pub fn largest() -> Input {
     let mut text = b"rec X.".to_vec();
     choice(&mut text, 31, &mut 0, true);
     Input { name: "largest", text, before: vec![], round: vec![0, 1, 2, 3] }
+}
+
+/// 6 states, 9 branches: the scanner of `examples/`, which frames after `Start` and `Ready`.
+pub fn scanner() -> Input {
+    let text = include_bytes!("../../../examples/scanner/protocol.txt").to_vec();
+    Input { name: "scanner", text, before: vec![0, 1], round: vec![2] }
 }
 
 /// A choice with so many more choices in it, of which the first is as deep as the limit of what is open lets it be.

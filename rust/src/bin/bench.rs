@@ -2,19 +2,26 @@
 //!
 //!     cargo run --release --bin bench
 
-use sojimu::bench::by_hand::{self, Place};
+use sojimu::bench::by_hand::{self, Pass, Place};
 use sojimu::bench::clock::{race, Race};
-use sojimu::bench::inputs::{small, Input};
+use sojimu::bench::inputs::{scanner, small, Input};
 use sojimu::bench::plain;
+use sojimu::bench::scans::Scan;
 use sojimu::second::random::label_of;
 use sojimu::second::table::{Branch, Raw, Sort, Table as Lists};
 use sojimu::second::{fit, text};
-use sojimu::{message, Fitting, Party, Table};
+use sojimu::{message, Fitting, Table};
 use std::hint::black_box;
+
+/// How many messages a scan has.
+const SCAN: usize = 100;
+/// How many bytes wait behind it.
+const BEHIND: usize = 64 * 1024;
 
 fn main() {
     let inputs = Input::all();
-    println!("ns of one call, the best round; ratio: the median of all rounds, below 1 where the proved code is faster");
+    println!("ns of one call, in a batch of one message, the best round;");
+    println!("ratio: the median of all rounds, below 1 where the proved code is faster");
     println!("{:8} {:8} {:>9} {:>9} {:>7}   against", "call", "table", "proved", "other", "ratio");
     let mut grown = Vec::new();
     for call in [step, due, make, sound, refusal, read, fit] {
@@ -25,9 +32,16 @@ fn main() {
     }
     hand_written().print();
     longest_fit().print();
+    scan_by_hand().print();
+    singly(&scanner(), SCAN).print();
+    singly(&small(), SCAN / 2).print();
     println!("\ngrowth from small to largest: proved, other");
     for (call, proved, other) in grown {
         println!("{call:8} {proved:>9.1} {other:>9.1}");
+    }
+    println!("\nother batches of the scanner's, and the one of {SCAN} frames: ns of one message, ratio");
+    for scan in [fewer, more, unfinished, no_message] {
+        scan().print();
     }
 }
 
@@ -110,24 +124,102 @@ fn hand_written() -> Row {
     )
 }
 
+/// A scan's frames at once, against the monitor that has no table.
+fn scan_by_hand() -> Row {
+    let table = &scanner().table();
+    let mut one = Scan::of(&scanner(), SCAN, &[], &[]);
+    let (mut other, mut pass) = (one.clone(), Pass::Scanning);
+    Row::of(
+        "batch",
+        "scanner",
+        "written by hand, no table",
+        SCAN,
+        &mut || {
+            black_box(black_box(&mut one).batch(table));
+        },
+        &mut || {
+            let Scan { device, host, to_device, to_host, .. } = black_box(&mut other);
+            black_box(by_hand::scan(black_box(&mut pass), device, host, to_device, to_host));
+        },
+    )
+}
+
+/// So many rounds of a conversation at once, against one message after the other.
+fn singly(input: &Input, rounds: usize) -> Row {
+    let table = &input.table();
+    let mut one = Scan::of(input, rounds, &[], &[]);
+    let mut other = one.clone();
+    Row::of(
+        "batch",
+        input.name,
+        "single due and step",
+        one.messages,
+        &mut || {
+            black_box(black_box(&mut one).batch(table));
+        },
+        &mut || {
+            black_box(black_box(&mut other).singly(table));
+        },
+    )
+}
+
+fn fewer() -> Row {
+    against_frames("10 frames", Scan::of(&scanner(), 10, &[], &[]))
+}
+
+fn more() -> Row {
+    against_frames("1,000 frames", Scan::of(&scanner(), 1000, &[], &[]))
+}
+
+fn unfinished() -> Row {
+    let frame = Scan::of(&scanner(), 1, &[], &[]).device;
+    let early = b"Next\0\0\0\0\0".repeat(BEHIND / 9);
+    against_frames(
+        "as many, then an unfinished one, and 64 KiB of early ones",
+        Scan::of(&scanner(), SCAN, &frame[..20], &early),
+    )
+}
+
+fn no_message() -> Row {
+    against_frames("as many, then 64 KiB that are no message", Scan::of(&scanner(), SCAN, &[b' '; BEHIND], &[]))
+}
+
+/// A batch of frames against that of a scan with nothing behind it. Times and ratio are those of one message.
+fn against_frames(what: &'static str, mut one: Scan) -> Row {
+    let table = &scanner().table();
+    let mut other = Scan::of(&scanner(), SCAN, &[], &[]);
+    let more = one.messages as f64 / SCAN as f64;
+    let mut row = Row::of(
+        "batch",
+        "scanner",
+        what,
+        SCAN,
+        &mut || {
+            black_box(black_box(&mut one).batch(table));
+        },
+        &mut || {
+            black_box(black_box(&mut other).batch(table));
+        },
+    );
+    row.race.first /= more;
+    row.race.ratio /= more;
+    row
+}
+
 /// The due part of two messages that wait on either side.
 fn due(input: &Input) -> Row {
     let table = &input.table();
-    let (start, round) = input.conversation();
-    let of = |party: Party| -> Vec<u8> {
-        round.iter().filter(|(side, _)| *side == party).flat_map(|(_, message)| message.clone()).collect()
-    };
-    let (device, host): (&[u8], &[u8]) = (&of(Party::Device), &of(Party::Host));
+    let Scan { state, device, host, .. } = &Scan::of(input, 1, &[], &[]);
     Row::of(
         "due",
         input.name,
         "plain monitor",
         1,
         &mut || {
-            black_box(table.due(black_box(start), black_box(device), black_box(host)));
+            black_box(table.due(black_box(*state), black_box(device), black_box(host)));
         },
         &mut || {
-            black_box(plain::due(table, black_box(start), black_box(device), black_box(host)));
+            black_box(plain::due(table, black_box(*state), black_box(device), black_box(host)));
         },
     )
 }

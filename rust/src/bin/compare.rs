@@ -8,7 +8,7 @@
 //! and whatever else is counted that was met a hundred times, and the run when it made 200,000 comparisons. The status is 0 only
 //! when none failed.
 
-use sojimu::compare::{Disagreement, Kind, Named, Tally, KINDS};
+use sojimu::compare::{Batched, Disagreement, Kind, Named, Tally, KINDS};
 use std::process::ExitCode;
 use std::time::Instant;
 
@@ -120,6 +120,9 @@ fn whole(options: &Options) -> usize {
     demand("by a high one".into(), tally.high, OFTEN);
     demand("most moves".into(), tally.most_moves as u64, OFTEN);
     for (what, count) in Named::ALL.into_iter().zip(tally.named) {
+        demand(what.into(), count, OFTEN);
+    }
+    for (what, count) in Batched::ALL.into_iter().zip(tally.batched) {
         demand(what.into(), count, OFTEN);
     }
     demand("comparisons".into(), tally.comparisons, ENOUGH);

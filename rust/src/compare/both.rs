@@ -2,7 +2,8 @@
 
 use super::{texts, Tally};
 use crate::proved::ffi;
-use crate::proved::{Party, Question, Reason, Standing, State, Table, Verdict};
+use crate::proved::{Batch, Party, Question, Reason, Standing, State, Table, Verdict};
+use crate::second::batch;
 use crate::second::monitor as second;
 use crate::second::table::{self, Raw};
 use crate::second::text;
@@ -123,6 +124,19 @@ pub fn verdict_codes(verdict: second::Verdict) -> ffi::Verdict {
             ffi::Verdict { outcome: 2, party: party(side) as u8, reason: reason.number(), field, ..nothing }
         }
     }
+}
+
+pub fn batch(batch: batch::Batch) -> Batch {
+    let batch::Batch { used_device, used_host, written_to_device, written_to_host, last } = batch;
+    Batch { used_device, used_host, written_to_device, written_to_host, last: last.map(verdict) }
+}
+
+/// The batch in the numbers that it is given back in.
+pub fn batch_codes(batch: batch::Batch) -> ffi::Batch {
+    let batch::Batch { used_device, used_host, written_to_device, written_to_host, last } = batch;
+    let none_due = ffi::Verdict { outcome: 3, question: 0, party: 0, reason: 0, field: 0 };
+    let last = last.map_or(none_due, verdict_codes);
+    ffi::Batch { used_device, used_host, written_to_device, written_to_host, last, reserved: [0; 3] }
 }
 
 /// An answer's question and number: 0 and the number, or the question that got a no and 0.

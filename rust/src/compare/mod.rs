@@ -5,8 +5,10 @@
 //! kind and case number alone, so that a disagreement can be shown again by its three names. Where document 01 leaves the answer
 //! free, the moves of a failing fit, they are played on the document's machine instead.
 
+mod batches;
 mod both;
 mod conversations;
+mod endings;
 mod fits;
 mod messages;
 mod names;
@@ -17,6 +19,7 @@ mod tables;
 mod tally;
 mod texts;
 
+pub use endings::Batched;
 pub use names::Named;
 pub use tally::Tally;
 
@@ -35,13 +38,15 @@ pub struct Kind {
 }
 
 /// Every kind of comparison.
-pub const KINDS: [Kind; 11] = [
+pub const KINDS: [Kind; 13] = [
     Kind { name: "texts", cases: 100_000, run: texts::case },
     Kind { name: "tables", cases: 1_600, run: tables::case },
     Kind { name: "messages", cases: 12_000, run: messages::case },
     Kind { name: "steps", cases: 40_000, run: steps::case },
     Kind { name: "conversations", cases: 20, run: conversations::case },
     Kind { name: "text-talks", cases: 1_000, run: conversations::of_text },
+    Kind { name: "batches", cases: 20_000, run: batches::case },
+    Kind { name: "batch-rooms", cases: 200, run: batches::every_room },
     Kind { name: "small-fits", cases: 21_000, run: fits::small },
     Kind { name: "large-fits", cases: 4_000, run: fits::large },
     Kind { name: "long-fits", cases: 2_200, run: fits::long },

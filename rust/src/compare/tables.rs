@@ -1,5 +1,6 @@
 //! Tables: sound, with noise beyond their counts, damaged in each column, and any; question 9, the dual, and messages made.
 
+use super::batches::{self, batch_of};
 use super::both::{codes, Both};
 use super::show::{self, Columns};
 use super::steps::{due_of, nobodys_step, step_of, Given, UNTOUCHED};
@@ -9,7 +10,7 @@ use crate::proved::{ffi, Question, Standing, State, Table};
 use crate::second::message;
 use crate::second::monitor::Side;
 use crate::second::random::{
-    any_raw, damaged_table, faulty_message, kind, number_of, sound_table, with_noise, Random, COLUMNS,
+    any_raw, damaged_table, faulty_message, kind, number_of, sound_table, with_noise, Random, Waiting, COLUMNS,
 };
 use crate::second::table::{legal_label, Kind, Raw, MOST_BRANCHES, MOST_STATES};
 
@@ -45,7 +46,10 @@ fn one(random: &mut Random, columns: &Raw, tally: &mut Tally) -> Outcome {
     step_of(&one, &both, tally)?;
     nobodys_step(random, &one, &both, tally)?;
     let other = given(random, &both);
-    due_of(&other, &both, &other.message, &other.message, tally)
+    due_of(&other, &both, &other.message, &other.message, tally)?;
+    let Given { state, message, room, .. } = other;
+    let waiting = Waiting { device: message.clone(), host: message };
+    batch_of(&batches::Given { state, waiting, device_room: room, host_room: room }, &both, tally).map(drop)
 }
 
 /// The table with the last byte of each word that is a count, a code or a number of a state.

@@ -1,6 +1,6 @@
 //! What was compared.
 
-use super::{Named, Outcome};
+use super::{Batched, Named, Outcome};
 use crate::proved::{Question, Verdict};
 use std::fmt::Debug;
 
@@ -31,6 +31,8 @@ pub struct Tally {
     pub most_moves: usize,
     /// What texts have of names after the dot of a `rec`, in the order of [`Named`].
     pub named: [u64; Named::ALL.len()],
+    /// What came of batches, in the order of [`Batched`].
+    pub batched: [u64; Batched::ALL.len()],
 }
 
 impl Tally {
@@ -40,6 +42,7 @@ impl Tally {
         self.questions.iter_mut().zip(other.questions).for_each(|(mine, its)| *mine += its);
         self.reasons.iter_mut().zip(other.reasons).for_each(|(mine, its)| *mine += its);
         self.named.iter_mut().zip(other.named).for_each(|(mine, its)| *mine += its);
+        self.batched.iter_mut().zip(other.batched).for_each(|(mine, its)| *mine += its);
         self.forwarded += other.forwarded;
         self.broken += other.broken;
         self.wide += other.wide;
@@ -75,6 +78,11 @@ impl Tally {
     /// Counts what has a name after the dot of a `rec`, if it has.
     pub(super) fn name(&mut self, what: Named, has: bool) {
         self.named[what as usize] += u64::from(has);
+    }
+
+    /// Counts a batch of which this holds, if it does.
+    pub(super) fn batch(&mut self, what: Batched, holds: bool) {
+        self.batched[what as usize] += u64::from(holds);
     }
 
     /// Counts a verdict.

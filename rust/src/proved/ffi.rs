@@ -46,6 +46,17 @@ pub struct Verdict {
 
 #[repr(C)]
 #[derive(Clone, Copy, Debug, PartialEq, Eq)]
+pub struct Batch {
+    pub used_device: usize,
+    pub used_host: usize,
+    pub written_to_device: usize,
+    pub written_to_host: usize,
+    pub last: Verdict,
+    pub reserved: [u8; 3],
+}
+
+#[repr(C)]
+#[derive(Clone, Copy, Debug, PartialEq, Eq)]
 pub struct Due {
     pub side: u32,
     pub length: u32,
@@ -70,6 +81,9 @@ pub struct Fit {
 /// In the place of a field's number: no field is high, all numbers are low.
 pub const ALL_LOW: u32 = 255;
 
+/// A batch's last answer, in the place of an outcome: none was due.
+pub const NONE_DUE: u8 = 3;
+
 /// Asserts where each field of a struct stands, in bytes, and the struct's size and alignment.
 macro_rules! laid_out {
     ($name:ident, $size:literal, $align:literal, $($field:ident $offset:literal),+) => {
@@ -89,6 +103,10 @@ laid_out!(Head, 8, 4, question 0, length 4);
 laid_out!(State, 2, 1, position 0, standing 1);
 laid_out!(Turn, 8, 4, question 0, side 4);
 laid_out!(Verdict, 5, 1, outcome 0, question 1, party 2, reason 3, field 4);
+laid_out!(
+    Batch, 40, 8,
+    used_device 0, used_host 8, written_to_device 16, written_to_host 24, last 32, reserved 37
+);
 laid_out!(Due, 8, 4, side 0, length 4);
 laid_out!(Made, 8, 4, question 0, length 4);
 laid_out!(Fit, 16, 4, outcome 0, question 4, count 8, high 12);
@@ -128,6 +146,18 @@ unsafe extern "C" {
         out: *mut u8,
         room: usize,
     ) -> Verdict;
+    fn sojimu_raw_batch(
+        table: &Table,
+        state: &mut State,
+        device: *const u8,
+        device_length: usize,
+        host: *const u8,
+        host_length: usize,
+        to_device: *mut u8,
+        device_room: usize,
+        to_host: *mut u8,
+        host_room: usize,
+    ) -> Batch;
     fn sojimu_raw_due(
         table: &Table,
         state: State,
@@ -188,6 +218,25 @@ pub fn step(table: &Table, state: &mut State, side: u32, message: &[u8], out: &m
     let (bytes, length) = (message.as_ptr(), message.len());
     // SAFETY: the table is whole; each pointer and length are those of one slice; state and output are lent to this call alone.
     unsafe { sojimu_raw_step(table, state, side, bytes, length, out.as_mut_ptr(), out.len()) }
+}
+
+#[inline]
+pub fn batch(table: &Table, state: &mut State, device: &[u8], host: &[u8], to_device: &mut [u8], to_host: &mut [u8]) -> Batch {
+    // SAFETY: the table is whole; each pointer and length are those of one slice; state and outputs are lent to this call alone.
+    unsafe {
+        sojimu_raw_batch(
+            table,
+            state,
+            device.as_ptr(),
+            device.len(),
+            host.as_ptr(),
+            host.len(),
+            to_device.as_mut_ptr(),
+            to_device.len(),
+            to_host.as_mut_ptr(),
+            to_host.len(),
+        )
+    }
 }
 
 #[inline]

@@ -1,11 +1,12 @@
 //! The proved code: the static library `libsojimu.a` behind safe types.
 //!
 //! The calls are those of document 01 and bear its names: [`Table::read`], [`Table::dual`], [`Table::make`], [`Table::step`],
-//! [`Table::due`], [`Table::fit`], [`report_into`], and in [`message`] the questions that are asked of bytes alone. No call has a
-//! precondition, none but [`report`] allocates, none keeps anything, and a table is lent, never copied. What breaks the rules is
-//! refused by the number of its question, and a refusal changes nothing. [`matches()`] says whether archive and wrapper belong
-//! together.
+//! [`Table::due`], [`Table::batch`], [`Table::fit`], [`report_into`], and in [`message`] the questions that are asked of bytes alone.
+//! No call has a precondition, none but [`report`] allocates, none keeps anything, and a table is lent, never copied. What breaks
+//! the rules is refused by the number of its question, and a refusal changes nothing. [`matches()`] says whether archive and
+//! wrapper belong together.
 
+mod batch;
 #[allow(unsafe_code)]
 pub(crate) mod ffi;
 mod fit;
@@ -16,6 +17,7 @@ mod report;
 mod table;
 mod version;
 
+pub use batch::Batch;
 pub use fit::{Fitting, LONGEST_LIST};
 pub use message::LONGEST_MESSAGE;
 pub use monitor::{Due, Party, Reason, Standing, State, Verdict};

@@ -110,7 +110,7 @@ pub enum Verdict {
 
 impl Verdict {
     #[inline]
-    fn of(verdict: ffi::Verdict) -> Verdict {
+    pub(super) fn of(verdict: ffi::Verdict) -> Verdict {
         match verdict.outcome {
             0 => Verdict::Forwarded,
             1 => Verdict::Refused(Question(verdict.question)),

@@ -19,6 +19,7 @@
 
 #![forbid(unsafe_code)]
 
+pub mod batch;
 pub mod brute;
 pub mod fit;
 pub mod machine;

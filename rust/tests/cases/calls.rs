@@ -3,8 +3,8 @@
 use sojimu::second::fit::{self, Answer};
 use sojimu::second::report;
 use sojimu::second::table::Raw;
-use sojimu::second::{message, monitor, text};
-use sojimu::{Fitting, Party, Question, Reason, Standing, State, Table, Verdict};
+use sojimu::second::{batch, message, monitor, text};
+use sojimu::{Batch, Fitting, Party, Question, Reason, Standing, State, Table, Verdict};
 
 /// One implementation. A question that gets a no is its number.
 pub trait Calls {
@@ -22,6 +22,15 @@ pub trait Calls {
     fn fresh(&self) -> State;
     fn step(&self, table: &Raw, state: &mut State, side: Party, message: &[u8], out: &mut [u8]) -> Verdict;
     fn due<'a>(&self, table: &Raw, state: State, device: &'a [u8], host: &'a [u8]) -> &'a [u8];
+    fn batch(
+        &self,
+        table: &Raw,
+        state: &mut State,
+        device: &[u8],
+        host: &[u8],
+        to_device: &mut [u8],
+        to_host: &mut [u8],
+    ) -> Batch;
     fn fit(&self, device: &Raw, protocol: &Raw, list: &mut [u16]) -> Answer;
     fn report(&self, protocol: &[u8], device: &[u8]) -> Vec<u8>;
     /// The report's length; 0 where the buffer does not hold it.
@@ -79,6 +88,18 @@ impl Calls for Proved {
 
     fn due<'a>(&self, table: &Raw, state: State, device: &'a [u8], host: &'a [u8]) -> &'a [u8] {
         Table::from(table).due(state, device, host).message
+    }
+
+    fn batch(
+        &self,
+        table: &Raw,
+        state: &mut State,
+        device: &[u8],
+        host: &[u8],
+        to_device: &mut [u8],
+        to_host: &mut [u8],
+    ) -> Batch {
+        Table::from(table).batch(state, device, host, to_device, to_host)
     }
 
     fn fit(&self, device: &Raw, protocol: &Raw, list: &mut [u16]) -> Answer {
@@ -144,19 +165,8 @@ impl Calls for Second {
             Party::Host => monitor::Side::Host,
         };
         let verdict = monitor::step(&table.table(), &mut own, side, message, out);
-        *state = codes(own);
-        match verdict {
-            monitor::Verdict::Refused(number) => Verdict::Refused(Question(number)),
-            monitor::Verdict::Forwarded => Verdict::Forwarded,
-            monitor::Verdict::Blamed(side, reason) => Verdict::Blamed(
-                if side == monitor::Side::Device { Party::Device } else { Party::Host },
-                match reason {
-                    monitor::Reason::Label => Reason::NoLabel,
-                    monitor::Reason::Kinds => Reason::OtherKinds,
-                    monitor::Reason::Range(field) => Reason::OutOfRange(field as u8),
-                },
-            ),
-        }
+        renew(state, own);
+        answer(verdict)
     }
 
     fn due<'a>(&self, table: &Raw, state: State, device: &'a [u8], host: &'a [u8]) -> &'a [u8] {
@@ -165,6 +175,22 @@ impl Calls for Second {
             monitor::Side::Device => &device[..part.length],
             monitor::Side::Host => &host[..part.length],
         }
+    }
+
+    fn batch(
+        &self,
+        table: &Raw,
+        state: &mut State,
+        device: &[u8],
+        host: &[u8],
+        to_device: &mut [u8],
+        to_host: &mut [u8],
+    ) -> Batch {
+        let mut own = own_state(*state);
+        let batch = batch::batch(&table.table(), &mut own, device, host, to_device, to_host);
+        renew(state, own);
+        let batch::Batch { used_device, used_host, written_to_device, written_to_host, last } = batch;
+        Batch { used_device, used_host, written_to_device, written_to_host, last: last.map(answer) }
     }
 
     fn fit(&self, device: &Raw, protocol: &Raw, list: &mut [u16]) -> Answer {
@@ -185,14 +211,36 @@ impl Calls for Second {
     }
 }
 
+fn answer(verdict: monitor::Verdict) -> Verdict {
+    match verdict {
+        monitor::Verdict::Refused(number) => Verdict::Refused(Question(number)),
+        monitor::Verdict::Forwarded => Verdict::Forwarded,
+        monitor::Verdict::Blamed(side, reason) => Verdict::Blamed(
+            if side == monitor::Side::Device { Party::Device } else { Party::Host },
+            match reason {
+                monitor::Reason::Label => Reason::NoLabel,
+                monitor::Reason::Kinds => Reason::OtherKinds,
+                monitor::Reason::Range(field) => Reason::OutOfRange(field as u8),
+            },
+        ),
+    }
+}
+
+/// A code that is unknown is not running, as those of a blame are.
 fn own_state(state: State) -> monitor::State {
     let standing = match state.standing {
         Standing::RUNNING => monitor::Standing::Running,
-        Standing::DEVICE_BLAMED => monitor::Standing::DeviceBlamed,
         Standing::HOST_BLAMED => monitor::Standing::HostBlamed,
-        other => panic!("no such standing: {other:?}"),
+        _ => monitor::Standing::DeviceBlamed,
     };
     monitor::State { position: usize::from(state.position), standing }
+}
+
+/// The state becomes this one; where it is this one already, its code stays.
+fn renew(state: &mut State, own: monitor::State) {
+    if own_state(*state) != own {
+        *state = codes(own);
+    }
 }
 
 fn codes(state: monitor::State) -> State {

@@ -9,12 +9,14 @@ use calls::{Calls, Proved, Second};
 use sojimu::second::brute::explore;
 use sojimu::second::fit::{shows_no_fit, Answer};
 use sojimu::second::table::Raw;
-use sojimu::{Party, Reason, Standing, State, Verdict};
+use sojimu::{Batch, Party, Reason, Standing, State, Verdict};
 use std::path::Path;
 
 const UNTOUCHED: u8 = 0xEE;
 const UNTOUCHED_ENTRY: u16 = 0xEEEE;
 const NO_FIELD: u64 = 0xFF;
+/// In the place of a verdict.
+const NONE_DUE: [u64; 4] = [3, 0, 0, 0];
 /// From this number on, what names a field names none; it also ends a text among other numbers.
 const NO_BYTE: u64 = 0x100;
 
@@ -46,6 +48,11 @@ fn fits() {
 #[test]
 fn reports() {
     run("reports", 140);
+}
+
+#[test]
+fn batches() {
+    run("batches", 90);
 }
 
 /// Runs a file, which has at least so many cases, through both.
@@ -138,6 +145,16 @@ impl Run<'_> {
             'k' => self.make(&edited(&self.table, &given[3..]), word(given[0]), given[1], given[2] as usize),
             'q' => self.read(&bytes(given))[..4].to_vec(),
             'r' => self.read(&bytes(given)),
+            'x' => self.fit(given),
+            'y' => self.fit(given)[..2].to_vec(),
+            'o' => self.report(given),
+            'z' => self.report_in_room(given[0] as usize, &given[1..]),
+            _ => self.monitor(command, given),
+        }
+    }
+
+    fn monitor(&mut self, command: char, given: &[u64]) -> Vec<u64> {
+        match command {
             'g' => {
                 self.state = self.calls.fresh();
                 vec![self.state.position.into(), self.state.standing.0.into()]
@@ -153,10 +170,16 @@ impl Run<'_> {
                 numbers
             }
             'w' => self.due(given),
-            'x' => self.fit(given),
-            'y' => self.fit(given)[..2].to_vec(),
-            'o' => self.report(given),
-            'z' => self.report_in_room(given[0] as usize, &given[1..]),
+            'b' => {
+                let mut state = state(given);
+                self.batch(&mut state, &given[2..])
+            }
+            'c' => {
+                let mut state = self.state;
+                let numbers = self.batch(&mut state, given);
+                self.state = state;
+                numbers
+            }
             _ => panic!("no such command: {command}"),
         }
     }
@@ -200,19 +223,24 @@ impl Run<'_> {
     fn step(&self, state: &mut State, given: &[u64]) -> Vec<u64> {
         let mut output = vec![UNTOUCHED; given[1] as usize];
         let verdict = self.calls.step(&self.table, state, side(given[0]), &bytes(&given[2..]), &mut output);
-        let mut numbers = match verdict {
-            Verdict::Refused(question) => vec![0, question.0.into(), 0, 0],
-            Verdict::Blamed(party, reason) => {
-                let field = match reason {
-                    Reason::OutOfRange(field) => field.into(),
-                    Reason::NoLabel | Reason::OtherKinds => NO_FIELD,
-                };
-                vec![1, party as u64, reason.number().into(), field]
-            }
-            Verdict::Forwarded => vec![2, 0, 0, 0],
-        };
+        let mut numbers = answer(verdict).to_vec();
         numbers.extend([u64::from(state.position), state.standing.0.into()]);
         numbers.extend(output.into_iter().map(u64::from));
+        numbers
+    }
+
+    /// Given: the rooms to the device and to the host, how many of the bytes are the device's, bytes.
+    fn batch(&self, state: &mut State, given: &[u64]) -> Vec<u64> {
+        let (device, host) = given[3..].split_at(given[2] as usize);
+        let (device, host) = (bytes(device), bytes(host));
+        let (mut to_device, mut to_host) = (vec![UNTOUCHED; given[0] as usize], vec![UNTOUCHED; given[1] as usize]);
+        let batch = self.calls.batch(&self.table, state, &device, &host, &mut to_device, &mut to_host);
+        let Batch { used_device, used_host, written_to_device, written_to_host, last } = batch;
+        let counts = [used_device, used_host, written_to_device, written_to_host];
+        let mut numbers: Vec<u64> = counts.into_iter().map(|count| count as u64).collect();
+        numbers.extend(last.map_or(NONE_DUE, answer));
+        numbers.extend([u64::from(state.position), state.standing.0.into()]);
+        numbers.extend(to_device.into_iter().chain(to_host).map(u64::from));
         numbers
     }
 
@@ -270,6 +298,21 @@ fn played(device: &Raw, protocol: &Raw, answer: Answer, list: &[u16]) {
             assert!(found().is_none_or(|found| !found.safe && found.fewest == moves));
             assert!(shows_no_fit(&device, &protocol, &list[..moves], high));
         }
+    }
+}
+
+/// A verdict in four numbers.
+fn answer(verdict: Verdict) -> [u64; 4] {
+    match verdict {
+        Verdict::Refused(question) => [0, question.0.into(), 0, 0],
+        Verdict::Blamed(party, reason) => {
+            let field = match reason {
+                Reason::OutOfRange(field) => field.into(),
+                Reason::NoLabel | Reason::OtherKinds => NO_FIELD,
+            };
+            [1, party as u64, reason.number().into(), field]
+        }
+        Verdict::Forwarded => [2, 0, 0, 0],
     }
 }
 

@@ -1,14 +1,16 @@
-//! Seeded random texts, tables, messages, conversations and pairs of tables, to compare implementations with.
+//! Seeded random texts, tables, messages, conversations, batches and pairs of tables, to compare implementations with.
 //!
 //! Everything follows from the seed alone: the same seed gives the same things on every machine. What is said to be legal or sound
 //! is so by construction; what is damaged may still be legal, and is to be asked.
 
+mod batches;
 mod messages;
 mod names;
 mod pairs;
 mod tables;
 mod texts;
 
+pub use batches::*;
 pub use messages::*;
 pub use names::*;
 pub use pairs::*;

@@ -1,0 +1,2 @@
+-- What the two proofs by hand have in common.
+mod Lent
