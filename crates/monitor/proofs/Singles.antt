@@ -2,9 +2,9 @@
 -- Assumes nothing.
 use mathlib.Core.Path.{_≡_, refl, sym, ap, ap₂, subst, _∙_}
 use mathlib.Core.Logic.{⊎-elim}
-use mathlib.Core.Bool.{Bool, true, false, _&&_, cond}
+use mathlib.Core.Bool.{Bool, true, false, not, _&&_, cond}
 use mathlib.Core.List.{List, [], _∷_, _++_, append-assoc, append-nil}
-use mathlib.Core.Option.{none, some}
+use mathlib.Core.Option.{Option, none, some}
 use Prim.Native.Nat.{ℕ, zero, suc, _+_, _≤_, _<_}
 use native.Mathlib.Nat.{pos-of-ne-zero}
 use native.Mathlib.Omega.{arith}
@@ -24,7 +24,7 @@ use Rattle.monitor.specs.Conversation.{Sent, Event, event, is-forwarded}
 use Rattle.monitor.specs.Batch.{Lane, used-by, written-by, taken, taking, Batch, latest, device-took, host-took}
 use Rattle.monitor.specs.Batch.{turn-of, one-turn, go-on, turns, begun}
 use Rattle.monitor.specs.Batches.{Left, output-for, left-after, HandsOut, Single, Singly, none-due, stops, goes-on}
-use Rattle.monitor.specs.Batches.{used-on, passed-from, lane-after, state-after, last-answer, summed, onto-lane, onto, left-by, BatchSingly}
+use Rattle.monitor.specs.Batches.{is-refused, used-on, passed-from, lane-after, state-after, last-answer, summed, onto-lane, onto, left-by, BatchSingly}
 use Rattle.monitor.specs.Turns.{is-last-forwarded}
 use Rattle.monitor.proofs.Asking.{turn-its, zero-or, Way, refuses, forwards, blames, way}
 use Rattle.monitor.proofs.Waiting.{first-within, first-cut}
@@ -166,6 +166,16 @@ parts-join u v p q out =
       append-assoc p q (drop (length p + length q) out),
     )
 
+some-last : (e : Event) (r : List Event) → (v : Told) × (last-answer (e ∷ r) ≡ some v)
+unfolding last-answer
+some-last e [] = (e .done .verdict, refl)
+some-last e (f ∷ r) = some-last f r
+
+last-later : (e : Event) (r : List Event) → latest (last-answer r) (some (e .done .verdict)) ≡ last-answer (e ∷ r)
+unfolding last-answer latest
+last-later e [] = refl
+last-later e (f ∷ r) = let x = some-last f r in ap (λ o. latest o (some (e .done .verdict))) (x .1) ∙ sym (x .1)
+
 module _ (side : Party) (e : Event) where
   module _ (r : List Event) where
     used-more : used-on side (e ∷ r) ≡ used-on side (e ∷ []) + used-on side r
@@ -193,7 +203,7 @@ module _ (side : Party) (e : Event) where
   -- a forwarded message's bytes count on its side, and none on the other
   module _ (own : is-party side (some (e .sent .side)) ≡ true) (f : e .done .verdict ≡ forwarded) where
     own-used : used-on side (e ∷ []) ≡ length (e .sent .bytes)
-    unfolding used-on used-by
+    unfolding used-on is-refused
     own-used = let x : length (e .sent .bytes) + 0 ≡ length (e .sent .bytes) = omega arith in rw (own, f) x
 
     own-passed : passed-from side (e ∷ []) ≡ e .sent .bytes
@@ -225,10 +235,12 @@ module _ (s : State) (l : Left) (e : Event) where
 
   one-then : (r : List Event) → onto with-one (summed (e .done .state) (left-by with-one l) r) ≡ summed s l (e ∷ r)
   unfolding onto summed left-by state-after last-answer latest
-  one-then r = ap₂ batch (lanes-join Device e r (l .to-host)) (lanes-join Host e r (l .to-device))
+  one-then r =
+      ap₂ (batch (latest (last-answer r) (some (e .done .verdict)))) (lanes-join Device e r (l .to-host)) (lanes-join Host e r (l .to-device))
+      ∙ ap (λ x. batch x (lane-after Device (e ∷ r) (l .to-host)) (lane-after Host (e ∷ r) (l .to-device))) (last-later e r)
     where
-      batch : Lane → Lane → Batch
-      batch d h = record { state = state-after (e .done .state) r; device = d; host = h; last = last-answer (e ∷ r) }
+      batch : Option Told → Lane → Lane → Batch
+      batch x d h = record { state = state-after (e .done .state) r; device = d; host = h; last = x }
 
   -- what it leaves, of a forwarded message
   one-leaves : (side : Party) → e .sent .side ≡ side → e .done .verdict ≡ forwarded
@@ -265,8 +277,8 @@ module _ (t : Words) (s : State) (side : Party) (bytes out : List ℕ) where
   -- the counts of the step, and of its event
   taken-lane : (x : Outcome) → Way t s side message out x
       → taken (length message) x untouched .lane
-      ≡ part (used-by (x .verdict) (length message) + 0) (cond (is-forwarded (x .verdict)) (message ++ []) []) out
-  unfolding taken refusing blaming forwarding used-by written-by is-forwarded opening
+      ≡ part (cond (not (is-refused (x .verdict))) (length message) 0 + 0) (cond (is-forwarded (x .verdict)) (message ++ []) []) out
+  unfolding taken refusing blaming forwarding used-by written-by is-refused is-forwarded opening
   taken-lane x (refuses q e n) = refl
   taken-lane x (blames e r f h) = let y : 0 + length message ≡ length message + 0 = omega arith in rw y
   taken-lane x (forwards e j h) =
