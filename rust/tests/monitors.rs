@@ -3,34 +3,11 @@
 use sojimu::bench::by_hand::{self, Pass, Place};
 use sojimu::bench::inputs::{scanner, small, Input};
 use sojimu::bench::plain;
+use sojimu::compare::{self, party, verdict};
 use sojimu::second::random::*;
 use sojimu::second::table::Raw;
 use sojimu::second::{batch, message, monitor, text};
-use sojimu::{Batch, Party, Question, Reason, Standing, State, Table, Verdict};
-
-fn party(side: monitor::Side) -> Party {
-    match side {
-        monitor::Side::Device => Party::Device,
-        monitor::Side::Host => Party::Host,
-    }
-}
-
-fn verdict(verdict: monitor::Verdict) -> Verdict {
-    match verdict {
-        monitor::Verdict::Refused(number) => Verdict::Refused(Question(number)),
-        monitor::Verdict::Forwarded => Verdict::Forwarded,
-        monitor::Verdict::Blamed(side, monitor::Reason::Label) => Verdict::Blamed(party(side), Reason::NoLabel),
-        monitor::Verdict::Blamed(side, monitor::Reason::Kinds) => Verdict::Blamed(party(side), Reason::OtherKinds),
-        monitor::Verdict::Blamed(side, monitor::Reason::Range(field)) => {
-            Verdict::Blamed(party(side), Reason::OutOfRange(field as u8))
-        }
-    }
-}
-
-fn batch(batch: batch::Batch) -> Batch {
-    let batch::Batch { used_device, used_host, written_to_device, written_to_host, last } = batch;
-    Batch { used_device, used_host, written_to_device, written_to_host, last: last.map(verdict) }
-}
+use sojimu::{Question, Standing, State, Table};
 
 /// Where the scanner's conversation is at a state of its table.
 fn pass(state: monitor::State) -> Pass {
@@ -111,7 +88,7 @@ fn the_scanners_monitor_written_by_hand() {
         let one = by_hand::scan(&mut place, &device, &host, to_device, to_host);
         let [to_device, to_host] = &mut others;
         let wanted = batch::batch(&lists, &mut state, &device, &host, to_device, to_host);
-        assert_eq!((one, place), (batch(wanted), pass(state)), "seed {seed}");
+        assert_eq!((one, place), (compare::batch(wanted), pass(state)), "seed {seed}");
         assert_eq!(outputs, others, "seed {seed}");
     }
 }

@@ -65,6 +65,7 @@ impl From<&Table> for Raw {
     }
 }
 
+/// The party of the second implementation's side.
 pub fn party(side: second::Side) -> Party {
     match side {
         second::Side::Device => Party::Device,
@@ -87,14 +88,20 @@ pub fn state_after(before: State, after: second::State) -> State {
     if after == state(before) {
         return before;
     }
-    let standing = match after.standing {
+    state_codes(after)
+}
+
+/// The second implementation's state in codes.
+pub fn state_codes(state: second::State) -> State {
+    let standing = match state.standing {
         second::Standing::Running => Standing::RUNNING,
         second::Standing::DeviceBlamed => Standing::DEVICE_BLAMED,
         second::Standing::HostBlamed => Standing::HOST_BLAMED,
     };
-    State { position: after.position as u8, standing }
+    State { position: state.position as u8, standing }
 }
 
+/// The verdict of the second implementation's step.
 pub fn verdict(verdict: second::Verdict) -> Verdict {
     match verdict {
         second::Verdict::Refused(number) => Verdict::Refused(Question(number)),
@@ -126,6 +133,7 @@ pub fn verdict_codes(verdict: second::Verdict) -> ffi::Verdict {
     }
 }
 
+/// What came of the second implementation's batch.
 pub fn batch(batch: batch::Batch) -> Batch {
     let batch::Batch { used_device, used_host, written_to_device, written_to_host, last } = batch;
     Batch { used_device, used_host, written_to_device, written_to_host, last: last.map(verdict) }

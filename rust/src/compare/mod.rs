@@ -19,6 +19,7 @@ mod tables;
 mod tally;
 mod texts;
 
+pub use both::{batch, party, state, state_after, state_codes, verdict};
 pub use endings::Batched;
 pub use names::Named;
 pub use tally::Tally;

@@ -1,10 +1,11 @@
 //! The calls that the case files name, as the second implementation has them and as the proved library does.
 
+use sojimu::compare;
 use sojimu::second::fit::{self, Answer};
 use sojimu::second::report;
 use sojimu::second::table::Raw;
 use sojimu::second::{batch, message, monitor, text};
-use sojimu::{Batch, Fitting, Party, Question, Reason, Standing, State, Table, Verdict};
+use sojimu::{Batch, Fitting, Party, Question, State, Table, Verdict};
 
 /// One implementation. A question that gets a no is its number.
 pub trait Calls {
@@ -155,22 +156,22 @@ impl Calls for Second {
     }
 
     fn fresh(&self) -> State {
-        codes(monitor::State::fresh())
+        compare::state_codes(monitor::State::fresh())
     }
 
     fn step(&self, table: &Raw, state: &mut State, side: Party, message: &[u8], out: &mut [u8]) -> Verdict {
-        let mut own = own_state(*state);
+        let mut own = compare::state(*state);
         let side = match side {
             Party::Device => monitor::Side::Device,
             Party::Host => monitor::Side::Host,
         };
         let verdict = monitor::step(&table.table(), &mut own, side, message, out);
-        renew(state, own);
-        answer(verdict)
+        *state = compare::state_after(*state, own);
+        compare::verdict(verdict)
     }
 
     fn due<'a>(&self, table: &Raw, state: State, device: &'a [u8], host: &'a [u8]) -> &'a [u8] {
-        let part = monitor::due(&table.table(), &own_state(state), device, host);
+        let part = monitor::due(&table.table(), &compare::state(state), device, host);
         match part.side {
             monitor::Side::Device => &device[..part.length],
             monitor::Side::Host => &host[..part.length],
@@ -186,11 +187,10 @@ impl Calls for Second {
         to_device: &mut [u8],
         to_host: &mut [u8],
     ) -> Batch {
-        let mut own = own_state(*state);
+        let mut own = compare::state(*state);
         let batch = batch::batch(&table.table(), &mut own, device, host, to_device, to_host);
-        renew(state, own);
-        let batch::Batch { used_device, used_host, written_to_device, written_to_host, last } = batch;
-        Batch { used_device, used_host, written_to_device, written_to_host, last: last.map(answer) }
+        *state = compare::state_after(*state, own);
+        compare::batch(batch)
     }
 
     fn fit(&self, device: &Raw, protocol: &Raw, list: &mut [u16]) -> Answer {
@@ -209,45 +209,4 @@ impl Calls for Second {
         }
         report.len()
     }
-}
-
-fn answer(verdict: monitor::Verdict) -> Verdict {
-    match verdict {
-        monitor::Verdict::Refused(number) => Verdict::Refused(Question(number)),
-        monitor::Verdict::Forwarded => Verdict::Forwarded,
-        monitor::Verdict::Blamed(side, reason) => Verdict::Blamed(
-            if side == monitor::Side::Device { Party::Device } else { Party::Host },
-            match reason {
-                monitor::Reason::Label => Reason::NoLabel,
-                monitor::Reason::Kinds => Reason::OtherKinds,
-                monitor::Reason::Range(field) => Reason::OutOfRange(field as u8),
-            },
-        ),
-    }
-}
-
-/// A code that is unknown is not running, as those of a blame are.
-fn own_state(state: State) -> monitor::State {
-    let standing = match state.standing {
-        Standing::RUNNING => monitor::Standing::Running,
-        Standing::HOST_BLAMED => monitor::Standing::HostBlamed,
-        _ => monitor::Standing::DeviceBlamed,
-    };
-    monitor::State { position: usize::from(state.position), standing }
-}
-
-/// The state becomes this one; where it is this one already, its code stays.
-fn renew(state: &mut State, own: monitor::State) {
-    if own_state(*state) != own {
-        *state = codes(own);
-    }
-}
-
-fn codes(state: monitor::State) -> State {
-    let standing = match state.standing {
-        monitor::Standing::Running => Standing::RUNNING,
-        monitor::Standing::DeviceBlamed => Standing::DEVICE_BLAMED,
-        monitor::Standing::HostBlamed => Standing::HOST_BLAMED,
-    };
-    State { position: state.position as u8, standing }
 }
