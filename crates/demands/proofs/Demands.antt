@@ -1,9 +1,8 @@
 -- The claims of texts: reading joins bytes and types, and a type and its table go on together, in conversations and on the machine.
 -- Assumes nothing.
-use mathlib.Core.Path.{_≡_, refl, sym, ap, subst, _∙_}
+use mathlib.Core.Path.{_≡_, refl, sym, ap, _∙_}
 use mathlib.Core.Logic.{_↔_}
 use mathlib.Core.List.{List, map}
-use mathlib.Core.Option.{Option, none, some}
 use Prim.Native.Nat.{ℕ, _*_}
 use lib.ListN.{length}
 use borrow.Author.Tests.{le-leb}
@@ -11,16 +10,14 @@ use Rattle.table.specs.Table.{Table}
 use Rattle.table.specs.Lists.{first-no}
 use Rattle.table.specs.View.{states-of, view}
 use Rattle.table.proofs.Lists.{never}
-use Rattle.message.specs.Message.{Message}
 use Rattle.message.specs.Rules.{Rules, table-rules}
 use Rattle.text.specs.Grammar.{Ty, Writes}
-use Rattle.text.specs.Filled.{Reading, came-out}
+use Rattle.text.specs.Filled.{Reading}
 use Rattle.text.specs.Reading.{reads}
 use Rattle.text.proofs.Exactly.{read-sound}
 use Rattle.text.proofs.Unique.{syntax-unique}
 use Rattle.spelling.proofs.Read.{writes-spelt, read-spelt}
 use Rattle.types.specs.Types.{type-rules}
-use Rattle.types.proofs.Stands.{Alike, neither, each}
 use Rattle.types.proofs.Agree.{Stands-for, Rules-alike}
 use Rattle.types.proofs.Texts.{text-rules}
 use Rattle.types.proofs.Headline.{type-demand}
@@ -30,7 +27,6 @@ use Rattle.fit.specs.Machine.{Safe, Unsafe}
 use Rattle.fit.specs.Answer.{Answer, refused, fits, fails, fit-questions, Demand}
 use Rattle.fit.proofs.Demand.{demand-three}
 use Rattle.together.proofs.Unblamed.{fits-unblamed}
-use Rattle.report.specs.Report.{Reported}
 use Rattle.report.proofs.Exactly.{reports-fit, reports-no-fit}
 use Rattle.demands.specs.Demands.{TextOf, ReadOfTexts, OneType, DemandTwoOfTexts, BatchesOfTexts, DemandThreeOfTexts, ReportsOfTexts, UnblamedOfTexts}
 use Rattle.demands.proofs.Likeness.{alike-itself, safe-like, unsafe-like}

@@ -2,7 +2,7 @@
 -- that asks both waits for no more than the longest message.
 -- Assumes nothing.
 use mathlib.Core.Path.{_≡_, sym, ap, ap₂, subst, _∙_}
-use mathlib.Core.Bool.{Bool, true, false, not, _&&_, _||_, cond}
+use mathlib.Core.Bool.{true, false, _&&_, cond}
 use mathlib.Core.List.{List, _++_}
 use mathlib.Core.Logic.{⊎-elim}
 use Prim.Native.Nat.{ℕ, _+_, _*_, _≤_, _<_}
@@ -14,7 +14,7 @@ use borrow.Author.Tests.{leb-true, leb-false, le-leb, lt-leb}
 use Rattle.table.specs.Lists.{first-no}
 use Rattle.table.specs.Table.{legal-label}
 use Rattle.table.proofs.Lists.{never, decided}
-use Rattle.message.specs.Message.{count-of, whole, legal-values, front, opens, broken}
+use Rattle.message.specs.Message.{count-of, legal-values, front, opens, broken}
 use Rattle.message.specs.Theorems.{NeverMended, UnbrokenAnnounces}
 use Rattle.message.proofs.Reading.{not-whole, whole-last, whole-opens, opens-parts, front-parts, cut-front}
 

@@ -14,9 +14,9 @@ use Rattle.message.specs.Message.{count-of, whole, legal-values, exact, well-fo
 use Rattle.message.proofs.Reading.{whole-parts}
 use Rattle.fit.specs.Machine.{Move, moves}
 use Rattle.fit.specs.Fit.{last-count, field-named}
-use Rattle.fit.specs.Answer.{Answer, refused, fits, fails, Failed, Answered}
+use Rattle.fit.specs.Answer.{refused, fits, fails, Failed, Answered}
 use Rattle.sojimu.specs.declared.fits.Fit.{Fit}
-use Rattle.sojimu.specs.Codes.{high-code, fit-codes}
+use Rattle.sojimu.specs.Codes.{high-code}
 use Rattle.sojimu.specs.Calls.{CodesTell}
 
 few : (bytes : List ℕ) → well-formed bytes ≡ true → count-of bytes ≤ 4

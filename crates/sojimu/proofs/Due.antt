@@ -1,14 +1,10 @@
 -- The side and the length that are told as due are the due part itself.
 -- Assumes nothing.
 use mathlib.Core.Path.{_≡_, refl}
-use mathlib.Core.List.{List}
-use Prim.Native.Nat.{ℕ}
-use Rattle.table.specs.View.{Words}
 use Rattle.table.specs.declared.Party.the-variants.{Device, Host}
-use Rattle.monitor.specs.declared.State.{State}
 use Rattle.monitor.specs.Due.{Awaited, refused, of-side, awaited, due-at, due}
 use Rattle.sojimu.specs.Calls.{due-codes, waiting, part-told, DuePart}
-use denote.Ref.{RefT, now}
+use denote.Ref.{now}
 
 pub due-part : DuePart
 unfolding due due-at due-codes waiting part-told
