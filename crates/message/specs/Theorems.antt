@@ -9,8 +9,8 @@ use Prim.Native.Nat.{ℕ, _≤_, _<_}
 use lib.ListN.{length, getD, take}
 use Rattle.table.specs.Lists.{matched}
 use Rattle.table.specs.Table.{Field, Table, sound}
-use Rattle.table.specs.View.{Words, view}
-use Rattle.message.specs.Message.{Value, Message, read, well-formed, front, broken}
+use Rattle.table.specs.View.{Words, label-of, view}
+use Rattle.message.specs.Message.{Value, Message, read, well-formed, front, broken, has-label}
 use Rattle.message.specs.Judge.{same-kind, in-range, allows, allowed, forbidden, judge}
 use Rattle.message.specs.Make.{branch, branch-message, making}
 
@@ -49,6 +49,13 @@ pub record Judged (t : Table) (i : ℕ) (m : Message) : Type 0 where
 
 abbrev pub JudgedExactly : Type 0
 JudgedExactly = (t : Table) → sound t ≡ true → (i : ℕ) (m : Message) → Judged t i m
+
+-- ---- the label where it stands
+
+-- for any bytes and any label's word, a branch's among them (`branch-at` in table/specs/View.antt): the compare says yes exactly when
+-- there are at least eight bytes and the first eight are the label
+abbrev pub LabelInPlace : Type 0
+LabelInPlace = (bytes : List ℕ) (label : ℕ) → has-label bytes label ≡ true ↔ ((8 ≤ length bytes) × (take 8 bytes ≡ label-of label))
 
 -- ---- bytes that still come
 

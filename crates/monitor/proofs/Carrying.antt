@@ -9,16 +9,17 @@ use native.Mathlib.Omega.{arith}
 use lib.ListN.{length, getD, take}
 use lib.Seq.{take-take, take-length}
 use lib.Dec.{leb, ltb, eqb}
-use borrow.Author.Tests.{ltb-true, lt-ltb, leb-true, le-leb, eqb-true}
+use borrow.Author.Tests.{ltb-true, lt-ltb, leb-true, le-leb}
 use Rattle.table.specs.Table.{legal-label, legal-field, within-kind, origin, is-party, speaker}
-use Rattle.table.specs.View.{branches-of, owner-at, target-at, count-at, word-at, kind-at, low-at, high-at, label-of, sort-of, view, sound-of}
-use Rattle.table.specs.Scans.{legal-at, Word}
+use Rattle.table.specs.View.{branches-of, owner-at, target-at, count-at, word-at, kind-at, low-at, high-at, sort-of, view, sound-of}
+use Rattle.table.specs.Scans.{legal-at}
 use Rattle.table.specs.Lists.{first-no}
 use Rattle.table.proofs.Lists.{both, join}
 use Rattle.table.proofs.Facts.{Facts, sound-facts}
-use Rattle.message.specs.Message.{number-at, count-of, announced, read, legal-value, front, refusal, label-word}
+use Rattle.message.specs.Message.{number-at, count-of, announced, read, legal-value, front, refusal, has-label}
 use Rattle.message.specs.Judge.{judge}
-use Rattle.message.proofs.Reading.{value-at, label-of-word, Whole, parts-whole, cut-values}
+use Rattle.message.proofs.Reading.{value-at, Whole, parts-whole, cut-values}
+use Rattle.message.proofs.Label.{label-in-place}
 use Rattle.table.specs.declared.Party.{Party}
 use Rattle.monitor.specs.Leaves.{branch-named, First, Held, Straight, Leading}
 use Rattle.monitor.proofs.Asking.{all-well}
@@ -57,8 +58,8 @@ value-legal t message k f n e legal same a b =
 
 -- ---- the straight way
 
-module _ (t : List ℕ) (sound : sound-of t ≡ true) (bytes : List ℕ) (small : (k : ℕ) → getD bytes k 0 < 256) (nine : 9 ≤ length bytes)
-    (i r : ℕ) (first : First (branch-named t i (label-word bytes)) (branches-of t) r) (l : r < branches-of t) (n : ℕ) (h : Held t bytes r n) where
+module _ (t : List ℕ) (sound : sound-of t ≡ true) (bytes : List ℕ) (nine : 9 ≤ length bytes)
+    (i r : ℕ) (first : First (branch-named t i bytes) (branches-of t) r) (l : r < branches-of t) (n : ℕ) (h : Held t bytes r n) where
   facts : Facts t
   facts = sound-facts t sound
 
@@ -66,8 +67,8 @@ module _ (t : List ℕ) (sound : sound-of t ≡ true) (bytes : List ℕ) (small 
   label-legal : legal-label (take 8 bytes) ≡ true
   unfolding branch-named
   label-legal =
-      let w = eqb-true (word-at t r) (label-word bytes) (both (eqb (word-at t r) (label-word bytes)) (eqb (owner-at t r) i) (first .there l) .0) in
-      ap legal-label (sym (ap label-of w ∙ label-of-word bytes (omega arith) small)) ∙ facts .labels r l
+      let e = both (eqb (owner-at t r) i) (has-label bytes (word-at t r)) (first .there l) .1 in
+      ap legal-label (label-in-place bytes (word-at t r) .0 e .1) ∙ facts .labels r l
 
   whole-there : Whole bytes
   unfolding count-of
@@ -89,14 +90,14 @@ module _ (t : List ℕ) (sound : sound-of t ≡ true) (bytes : List ℕ) (small 
       ap₂ (λ a b. record { label = a; values = b }) (take-take 8 n bytes (omega (arith, h .size)))
       (cut-values bytes n whole-there (omega (arith, h .counted, h .size)) (h .there))
 
-  pub straight : (room : ℕ) → n ≤ room → ((k : ℕ) → k < r → owner-at t k ≡ i → Word (word-at t k)) → Leading t i bytes room n (target-at t r)
+  pub straight : (room : ℕ) → n ≤ room → Leading t i bytes room n (target-at t r)
   unfolding judge view
-  straight room fits words = record {
+  straight room fits = record {
     nine = omega (arith, h .size);
     first = all-there bytes front-there (omega (arith, announced-there, h .there)) ∙ announced-there;
     holds = fits;
     judged = ap (judge (view t) i) read-there
-        ∙ allowed-here t (branches-of t) i bytes whole-there small r first words l (h .counted) (h .carried .kinds) (count-at t r)
+        ∙ allowed-here t (branches-of t) i bytes whole-there r first l (h .counted) (h .carried .kinds) (count-at t r)
         (record { within = le-refl (count-at t r); before = λ k g. ap not (h .carried .numbers k g); there = λ g. absurd (omega arith) }) (le-refl (count-at t r));
   }
 

@@ -27,7 +27,7 @@ pub fn leads_to(t: &Table, position: u8, sort: u32, side: Party, message: &[u8],
         return 32;
     }
     let n = t[table::BRANCHES] as usize;
-    let b = judge::find(t, n, position, message::label_word(message));
+    let b = judge::find(t, n, position, message);
     if n <= b {
         return 32;
     }
@@ -52,7 +52,7 @@ pub fn look_ahead(t: &Table, position: u8, bytes: &[u8], room: usize) -> Ahead
         return nowhere();
     }
     let n = t[table::BRANCHES] as usize;
-    let b = judge::find(t, n, position, message::label_word(bytes));
+    let b = judge::find(t, n, position, bytes);
     if n <= b {
         return nowhere();
     }

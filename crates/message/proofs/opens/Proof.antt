@@ -7,18 +7,13 @@ use lib.Dec.{leb}
 use borrow.Author.Needs.{needs}
 use borrow.Author.Tests.{not-true, not-false}
 use Rattle.table.specs.Table.{legal-label}
-use Rattle.table.specs.View.{label-of}
 use Rattle.message.specs.Message.{count-of, opens}
-use Rattle.message.proofs.Reading.{label-of-word}
 use Rattle.message.proofs.opens.Statement.{statement}
 use Rattle.message.proofs.opens.Tie as tie
 
 -- the word that was tested is the label
 labelled : (c : tie.After-label-legal) → c .label-legal .result ≡ legal-label (take 8 (c .before .before .before .args .bytes .now))
-labelled c =
-    let k = c .before .before in
-    c .label-legal .ensures ∙ ap (λ w. legal-label (label-of w)) (c .before .label-word .ensures)
-    ∙ ap legal-label (label-of-word (k .before .args .bytes .now) (omega arith) (λ i. k .shared-slice-known .given i .fits))
+labelled c = c .label-legal .ensures ∙ ap legal-label (c .before .label-here .ensures)
 
 returns : tie.Need-returns
 unfolding opens

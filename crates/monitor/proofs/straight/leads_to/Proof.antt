@@ -1,30 +1,20 @@
 -- `monitor::straight::leads_to` meets its contract: nothing is said of 32, and the rest is one law. Assumes nothing.
-use mathlib.Core.Path.{sym, subst, _∙_}
-use Prim.Native.Nat.{ℕ, _<_}
+use mathlib.Core.Path.{sym, _∙_}
+use Prim.Native.Nat.{_<_}
 use native.Mathlib.Omega.{arith}
-use lib.ListN.{getD}
 use borrow.Author.Needs.{needs}
 use borrow.Author.Tests.{not-false}
-use Rattle.table.specs.View.{branches-of}
 use Rattle.table.proofs.Facts.{Facts, sound-facts}
-use Rattle.message.specs.Message.{label-word}
-use Rattle.monitor.specs.Leaves.{branch-named, First}
 use Rattle.monitor.proofs.Carrying.{straight, straight-alone}
 use Rattle.monitor.proofs.straight.leads_to.Statement.{statement}
 use Rattle.monitor.proofs.straight.leads_to.Tie as tie
 
 -- what is known once a branch was looked for
 abbrev start : tie.After-find → tie.Start
-start c = c .before .before .before .before .before .before .before .before
+start c = c .before .before .before .before .before .before .before
 
 facts : (c : tie.After-find) → Facts (start c .args .t .now)
 facts c = sound-facts _ (start c .pre)
-
-small : (c : tie.After-find) (k : ℕ) → getD (start c .args .message .now) k 0 < 256
-small c k = omega (arith, c .before .before .before .before .before .before .before .shared-slice-known .given k)
-
-first : (c : tie.After-find) → let a = start c .args in First (branch-named (a .t .now) (a .position) (label-word (a .message .now))) (branches-of (a .t .now)) (c .find .result)
-first c = let a = start c .args in subst (λ x. First (branch-named (a .t .now) (a .position) x) (branches-of (a .t .now)) (c .find .result)) (c .before .label-word .ensures) (c .find .ensures .0)
 
 -- and once it was found
 place : (c : tie.Else4) → c .before .find .result < 128
@@ -43,13 +33,13 @@ cast-n : tie.Need-cast-n
 cast-n c = record { fits = omega (arith, sound-facts _ (c .before .before .before .before .before .before .pre) .room) }
 
 find-requires : tie.Need-find-requires
-find-requires c κs = sound-facts _ (c .before .before .before .before .before .before .before .pre) .room
+find-requires c κs = sound-facts _ (c .before .before .before .before .before .before .pre) .room
 
 returns-4 : tie.Need-returns-4
 returns-4 c l = absurd (omega arith)
 
 held-requires : tie.Need-held-requires
-held-requires c κs = (start (c .before) .pre, c .if4 .left, c .before .before .before .before .if3 .left)
+held-requires c κs = (start (c .before) .pre, c .if4 .left, c .before .before .before .if3 .left)
 
 returns-5 : tie.Need-returns-5
 returns-5 c l = absurd (omega arith)
@@ -73,12 +63,12 @@ returns-6 c l =
     let e = c .before .before .before in
     let f = e .before in
     let a = start f .args in
-    let nine = f .before .before .before .if3 .left in
+    let nine = f .before .before .if3 .left in
     let size = c .before .if5 .left in
     straight-alone (a .t .now) (a .position) (a .message .now) (a .room) _ _
-    (straight (a .t .now) (start f .pre) (a .message .now) (small f) nine (a .position) (f .find .result) (first f) (e .if4 .left)
-    _ (c .before .before .held .ensures (λ z. omega (arith, z, size, nine))) (a .room) (omega (arith, size, f .before .before .before .before .if2 .left)) (f .find .ensures .1))
-    size (a .sort) (a .side) (sym (f .before .before .before .before .before .before .has-turn .ensures) ∙ not-false _ (f .before .before .before .before .before .if1 .left))
+    (straight (a .t .now) (start f .pre) (a .message .now) nine (a .position) (f .find .result) (f .find .ensures) (e .if4 .left)
+    _ (c .before .before .held .ensures (λ z. omega (arith, z, size, nine))) (a .room) (omega (arith, size, f .before .before .before .if2 .left)))
+    size (a .sort) (a .side) (sym (f .before .before .before .before .before .has-turn .ensures) ∙ not-false _ (f .before .before .before .before .if1 .left))
 
 pub leads-to-spec : {M : Type 1} → statement M
 leads-to-spec =
@@ -90,7 +80,6 @@ leads-to-spec =
     returns-3
     (λ c. search needs)
     cast-n
-    (λ c κs. search needs)
     find-requires
     returns-4
     held-requires

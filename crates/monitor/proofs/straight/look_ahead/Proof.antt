@@ -1,30 +1,20 @@
 -- `monitor::straight::look_ahead` meets its contract: nothing is said of 32, and the rest is one law. Assumes nothing.
-use mathlib.Core.Path.{_≡_, ap, subst}
-use Prim.Native.Nat.{ℕ, _<_}
+use mathlib.Core.Path.{_≡_, ap}
+use Prim.Native.Nat.{_<_}
 use native.Mathlib.Omega.{arith}
-use lib.ListN.{getD}
 use borrow.Author.Needs.{needs}
-use Rattle.table.specs.View.{branches-of}
 use Rattle.table.proofs.Facts.{Facts, sound-facts}
-use Rattle.message.specs.Message.{label-word}
 use Rattle.monitor.specs.declared.straight.Ahead.{Ahead}
-use Rattle.monitor.specs.Leaves.{branch-named, First}
 use Rattle.monitor.proofs.Carrying.{straight}
 use Rattle.monitor.proofs.straight.look_ahead.Statement.{statement}
 use Rattle.monitor.proofs.straight.look_ahead.Tie as tie
 
 -- what is known once a branch was looked for
 abbrev start : tie.After-find → tie.Start
-start c = c .before .before .before .before .before
+start c = c .before .before .before .before
 
 facts : (c : tie.After-find) → Facts (start c .args .t .now)
 facts c = sound-facts _ (start c .pre)
-
-small : (c : tie.After-find) (k : ℕ) → getD (start c .args .bytes .now) k 0 < 256
-small c k = omega (arith, c .before .before .before .before .shared-slice-known .given k)
-
-first : (c : tie.After-find) → let a = start c .args in First (branch-named (a .t .now) (a .position) (label-word (a .bytes .now))) (branches-of (a .t .now)) (c .find .result)
-first c = let a = start c .args in subst (λ x. First (branch-named (a .t .now) (a .position) x) (branches-of (a .t .now)) (c .find .result)) (c .before .label-word .ensures) (c .find .ensures .0)
 
 -- and once it was found
 place : (c : tie.Else2) → c .before .find .result < 128
@@ -41,13 +31,13 @@ cast-n : tie.Need-cast-n
 cast-n c = record { fits = omega (arith, sound-facts _ (c .before .before .before .pre) .room) }
 
 find-requires : tie.Need-find-requires
-find-requires c κs = sound-facts _ (c .before .before .before .before .pre) .room
+find-requires c κs = sound-facts _ (c .before .before .before .pre) .room
 
 returns-2 : tie.Need-returns-2
 returns-2 c l = absurd (not-there _ (c .nowhere2 .ensures) l)
 
 held-requires : tie.Need-held-requires
-held-requires c κs = (start (c .before) .pre, c .if2 .left, c .before .before .before .before .if1 .left)
+held-requires c κs = (start (c .before) .pre, c .if2 .left, c .before .before .before .if1 .left)
 
 returns-3 : tie.Need-returns-3
 returns-3 c l = absurd (not-there _ (c .nowhere3 .ensures) l)
@@ -74,8 +64,8 @@ returns-5 c l =
     let e = c .before .before .before .before in
     let f = e .before in
     let a = start f .args in
-    straight (a .t .now) (start f .pre) (a .bytes .now) (small f) (f .before .before .before .if1 .left) (a .position) (f .find .result) (first f) (e .if2 .left)
-    _ (c .before .before .before .held .ensures (c .before .before .if3 .left)) (a .room) (c .before .if4 .left) (f .find .ensures .1)
+    straight (a .t .now) (start f .pre) (a .bytes .now) (f .before .before .if1 .left) (a .position) (f .find .result) (f .find .ensures) (e .if2 .left)
+    _ (c .before .before .before .held .ensures (c .before .before .if3 .left)) (a .room) (c .before .if4 .left)
 
 pub look-ahead-spec : {M : Type 1} → statement M
 look-ahead-spec =
@@ -85,7 +75,6 @@ look-ahead-spec =
     returns
     (λ c. search needs)
     cast-n
-    (λ c κs. search needs)
     find-requires
     (λ c κs. search needs)
     returns-2
