@@ -113,6 +113,12 @@ fn whole(options: &Options) -> usize {
     }
     demand("forwarded".into(), tally.forwarded, OFTEN);
     demand("broken".into(), tally.broken, OFTEN);
+    demand("label, there".into(), tally.label_there, OFTEN);
+    demand("label, cut".into(), tally.label_cut, OFTEN);
+    for (place, (apart, blamed)) in tally.label_apart.into_iter().zip(tally.label_blamed).enumerate() {
+        demand(format!("label, byte {place}"), apart, OFTEN);
+        demand(format!("blamed, byte {place}"), blamed, OFTEN);
+    }
     demand("wide words".into(), tally.wide, OFTEN);
     demand("strange".into(), tally.strange, OFTEN);
     demand("fits".into(), tally.fits, OFTEN);

@@ -4,8 +4,8 @@ use super::both::codes;
 use super::{show, Outcome, Tally};
 use crate::proved::message as proved;
 use crate::proved::{ffi, Question};
-use crate::second::message::{broken, front, has_label, read};
-use crate::second::random::{label, message_for, sound_table, waiting, Random};
+use crate::second::message::{broken, front, read};
+use crate::second::random::{message_for, sound_table, waiting, Random};
 
 /// Bytes of any sort, through each call that takes bytes alone.
 pub fn case(random: &mut Random, tally: &mut Tally) -> Outcome {
@@ -24,11 +24,5 @@ pub fn case(random: &mut Random, tally: &mut Tally) -> Outcome {
     tally.broken += u64::from(proved::broken(&bytes));
     tally.same("broken", proved::broken(&bytes), broken(&bytes), show)?;
     let part = &bytes[..random.below(bytes.len().min(30) + 1)];
-    tally.same("broken", proved::broken(part), broken(part), || show::bytes("part", part))?;
-
-    let label = label(random, &[]);
-    let word = u64::from_be_bytes(label);
-    tally.same("has_label", proved::has_label(&bytes, word), has_label(&label, &bytes), show)?;
-    let first = bytes.first_chunk().map_or(0, |first| u64::from_be_bytes(*first));
-    tally.same("has_label", proved::has_label(&bytes, first), bytes.len() >= 8, show)
+    tally.same("broken", proved::broken(part), broken(part), || show::bytes("part", part))
 }

@@ -10,6 +10,7 @@ mod both;
 mod conversations;
 mod endings;
 mod fits;
+mod labels;
 mod messages;
 mod names;
 mod reports;
@@ -39,10 +40,11 @@ pub struct Kind {
 }
 
 /// Every kind of comparison.
-pub const KINDS: [Kind; 13] = [
+pub const KINDS: [Kind; 14] = [
     Kind { name: "texts", cases: 100_000, run: texts::case },
     Kind { name: "tables", cases: 1_600, run: tables::case },
     Kind { name: "messages", cases: 12_000, run: messages::case },
+    Kind { name: "labels", cases: 12_000, run: labels::case },
     Kind { name: "steps", cases: 40_000, run: steps::case },
     Kind { name: "conversations", cases: 20, run: conversations::case },
     Kind { name: "text-talks", cases: 1_000, run: conversations::of_text },

@@ -2,6 +2,7 @@
 
 use super::{Batched, Named, Outcome};
 use crate::proved::{Question, Verdict};
+use crate::second::table::LABEL_BYTES;
 use std::fmt::Debug;
 
 /// Counts of what was compared, by what the two answered.
@@ -17,6 +18,14 @@ pub struct Tally {
     pub forwarded: u64,
     /// Bytes that nothing can mend.
     pub broken: u64,
+    /// Bytes that begin with the label.
+    pub label_there: u64,
+    /// Bytes that are the label, but for some of its end.
+    pub label_cut: u64,
+    /// Bytes that begin with another label, by the place of the one byte that differs.
+    pub label_apart: [u64; LABEL_BYTES],
+    /// Blames for reason 1, by the place of the one byte in which the label and a branch's differ.
+    pub label_blamed: [u64; LABEL_BYTES],
     /// Tables that are not sound, and would be if each word were its last byte.
     pub wide: u64,
     /// Sides that are neither, and positions, branches and named fields above 255.
@@ -41,10 +50,14 @@ impl Tally {
         self.comparisons += other.comparisons;
         self.questions.iter_mut().zip(other.questions).for_each(|(mine, its)| *mine += its);
         self.reasons.iter_mut().zip(other.reasons).for_each(|(mine, its)| *mine += its);
+        self.label_apart.iter_mut().zip(other.label_apart).for_each(|(mine, its)| *mine += its);
+        self.label_blamed.iter_mut().zip(other.label_blamed).for_each(|(mine, its)| *mine += its);
         self.named.iter_mut().zip(other.named).for_each(|(mine, its)| *mine += its);
         self.batched.iter_mut().zip(other.batched).for_each(|(mine, its)| *mine += its);
         self.forwarded += other.forwarded;
         self.broken += other.broken;
+        self.label_there += other.label_there;
+        self.label_cut += other.label_cut;
         self.wide += other.wide;
         self.strange += other.strange;
         self.fits += other.fits;
