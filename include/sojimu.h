@@ -338,7 +338,7 @@ static inline uint32_t sojimu_refusal(const uint8_t *bytes, size_t length)
     return sojimu_raw_refusal(sojimu_lent(bytes, length), length);
 }
 
-/* Whether there are eight bytes and they are this label. */
+/* Whether there are at least eight bytes and the first eight are this label. */
 static inline bool sojimu_has_label(const uint8_t *bytes, size_t length, uint64_t label)
 {
     return sojimu_raw_has_label(sojimu_lent(bytes, length), length, label);

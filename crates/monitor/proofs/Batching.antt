@@ -30,6 +30,7 @@ use Rattle.monitor.specs.Due.{Awaited, of-side, awaited, first-length}
 use Rattle.monitor.specs.Due as Due
 use Rattle.monitor.specs.Batch.{Lane, used-by, written-by, Taken, taken, taking, Batch, device-took, host-took, turn-of, one-turn}
 use Rattle.monitor.specs.Batch.{go-on, turns, batch-questions, begun, batching}
+use Rattle.monitor.specs.Conversation.{is-forwarded}
 use Rattle.monitor.specs.Turns.{Heard, LaneIn, Within, is-last-forwarded}
 use Rattle.monitor.proofs.Asking.{zero-or, entered, at-end, at-choice, opened, Ready, ready, asked-then, target-of, refused-step}
 use Rattle.monitor.proofs.Asking.{Way, refuses, forwards, blames, way}
@@ -171,7 +172,7 @@ module _ (t : Words) (s : State) (side : Party) (bytes : List ℕ) (l : Lane) wh
     pub moves : is-last-forwarded (x .answer) ≡ true → l .used < x .lane .used
 
   pub taking-moved : awaited t s ≡ of-side side → sound-at t (s .position) ≡ true → LaneIn bytes l → Moved (taking t s side bytes l)
-  unfolding is-last-forwarded taken used-by
+  unfolding is-last-forwarded is-forwarded taken used-by
   taking-moved a e i = ⊎-elim one no (zero-or (first-length rest))
     where
       no : first-length rest ≡ 0 → Moved (taking t s side bytes l)
@@ -229,7 +230,7 @@ module _ (t : Words) (device host : List ℕ) where
         → left device host (r .1 .device .used) (r .1 .host .used) < left device host (b .device .used) (b .host .used)
 
   pub stays : (b : Batch) → Within t device host b → Stays b (one-turn t device host b)
-  unfolding is-last-forwarded device-took host-took
+  unfolding is-last-forwarded is-forwarded device-took host-took
   stays b w =
       turn-by (Stays b) b (λ q e. record { within = w; falls = λ h. never h refl })
       (λ e.
@@ -249,7 +250,7 @@ module _ (t : Words) (device host : List ℕ) where
 
 pub go-on-by : (P : Batch → Type 0) (f : Batch → Batch) (r : Option Told × Batch) → (is-last-forwarded (r .0) ≡ true → P (f (r .1)))
     → (is-last-forwarded (r .0) ≡ false → P (r .1)) → P (go-on f r)
-unfolding go-on is-last-forwarded
+unfolding go-on is-last-forwarded is-forwarded
 go-on-by P f (none, b) on over = over refl
 go-on-by P f (some (refused q), b) on over = over refl
 go-on-by P f (some (blamed p r x), b) on over = over refl

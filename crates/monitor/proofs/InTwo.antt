@@ -21,6 +21,7 @@ use Rattle.monitor.specs.Due.{of-side, first-length}
 use Rattle.monitor.specs.Batch.{Lane, taken, taking, Batch, latest, device-took, host-took, turn-of, one-turn, go-on, turns}
 use Rattle.monitor.specs.Batch.{batch-questions, begun, batching}
 use Rattle.monitor.specs.Batches.{Left, onto, left-by, arrived, BatchInTwo}
+use Rattle.monitor.specs.Conversation.{is-forwarded}
 use Rattle.monitor.specs.Turns.{Within, is-last-forwarded}
 use Rattle.monitor.proofs.Asking.{zero-or, none-stops}
 use Rattle.monitor.proofs.Waiting.{first-within, first-cut, first-formed, first-found}
@@ -99,7 +100,7 @@ module _ (t : Words) (device host x y : List ℕ) where
   at-once b r e = (0, λ k. let z : 0 + k ≡ k = omega arith in ap (λ n. later-turns n b) z ∙ ap (later-turns k) e)
 
   later-on : (b r : Batch) → is-last-forwarded (turn-there b .0) ≡ true → Turn b (turn-there b) → Later (turn-there b .1) r → Later b r
-  unfolding Later is-last-forwarded
+  unfolding Later is-last-forwarded is-forwarded
   later-on b r h (waits q) l = never h (ap (λ (r : Option Told × Batch). is-last-forwarded (r .0)) q)
   later-on b r h (same g) l = (
     suc (l .0),

@@ -22,6 +22,7 @@ use Rattle.monitor.specs.Step.{outcome}
 use Rattle.monitor.specs.Due.{of-side, awaited, first-length}
 use Rattle.monitor.specs.Batch.{Lane, used-by, written-by, Taken, taken, taking, Batch, latest, device-took, host-took, turn-of}
 use Rattle.monitor.specs.Batch.{one-turn, go-on, turns, batch-questions, begun}
+use Rattle.monitor.specs.Conversation.{is-forwarded}
 use Rattle.monitor.specs.Turns.{Heard, LaneIn, Within, is-last-forwarded, Led, no-turn, a-turn, moved-to, PassedOn}
 use Rattle.monitor.proofs.Asking.{zero-or, entered, Way, refuses, forwards, blames, way}
 use Rattle.monitor.proofs.Waiting.{first-cut}
@@ -99,14 +100,14 @@ module _ (t : Words) (s : State) (side : Party) (bytes : List ℕ) (l : Lane) (a
 -- a message that is forwarded leaves the standing as it was
 step-standing : (t : Words) (s : State) (side : Party) (message out : List ℕ) (x : Outcome) → Way t s side message out x
     → is-last-forwarded (some (x .verdict)) ≡ true → x .state .standing ≡ s .standing
-unfolding refusing blaming forwarding is-last-forwarded
+unfolding refusing blaming forwarding is-last-forwarded is-forwarded
 step-standing t s side message out x (refuses q e n) h = never h refl
 step-standing t s side message out x (forwards e j g) h = refl
 step-standing t s side message out x (blames e r f g) h = never h refl
 
 taking-standing : (t : Words) (s : State) (side : Party) (bytes : List ℕ) (l : Lane)
     → is-last-forwarded (taking t s side bytes l .answer) ≡ true → taking t s side bytes l .state .standing ≡ s .standing
-unfolding taken is-last-forwarded
+unfolding taken is-last-forwarded is-forwarded
 taking-standing t s side bytes l = ⊎-elim one no (zero-or (first-length (drop (l .used) bytes)))
   where
     Same : Taken → Type 0
@@ -141,7 +142,7 @@ module _ (t : Words) (device host : List ℕ) where
 
   module _ (b d : Batch) (o : On b) (e : one-turn t device host b ≡ (some forwarded, d)) where
     turn-forwards : is-last-forwarded (one-turn t device host b .0) ≡ true
-    unfolding is-last-forwarded
+    unfolding is-last-forwarded is-forwarded
     turn-forwards = ap (λ (r : Option Told × Batch). is-last-forwarded (r .0)) e
 
     pub turn-on : On d
@@ -159,7 +160,7 @@ module _ (t : Words) (device host : List ℕ) where
   -- as the program has it
   pub turn-forwarded : (b : Batch) (r : Option Told × Batch) → r ≡ one-turn t device host b → is-last-forwarded (r .0) ≡ true
       → one-turn t device host b ≡ (some forwarded, r .1)
-  unfolding is-last-forwarded
+  unfolding is-last-forwarded is-forwarded
   turn-forwarded b r e h = sym e ∙ by r h
     where
       by : (r : Option Told × Batch) → is-last-forwarded (r .0) ≡ true → r ≡ (some forwarded, r .1)

@@ -25,6 +25,7 @@ use Rattle.monitor.specs.Due.{first-length}
 use Rattle.monitor.specs.Batch.{Lane, used-by, written-by, Taken, taken, taking, Batch, device-took, host-took, one-turn}
 use Rattle.monitor.specs.Batch.{turns, batch-questions, begun, batching}
 use Rattle.monitor.specs.Batches.{Left, joined, Messages, Accounted, NothingLostOf, NothingLost}
+use Rattle.monitor.specs.Conversation.{is-forwarded}
 use Rattle.monitor.specs.Turns.{is-last-forwarded}
 use Rattle.monitor.proofs.Asking.{zero-or, Way, refuses, forwards, blames, way}
 use Rattle.monitor.proofs.Waiting.{first-within, first-formed}
@@ -100,7 +101,7 @@ module _ (bytes before : List ℕ) where
           take-append-drop (l .written) (l .output) ∙ a .forwards ∙ ap (λ k. take k bytes ++ drop k before) (sym e)
 
       after-by : (t : Words) (s : State) (side : Party) (x : Outcome) → Way t s side (message n) room x → After (taken n x l)
-      unfolding taken used-by written-by refusing blaming forwarding is-last-forwarded
+      unfolding taken used-by written-by refusing blaming forwarding is-last-forwarded is-forwarded
       after-by t s side x (refuses q e z) =
           let u : l .used ≡ l .used + 0 = omega arith in
           let w : l .written ≡ l .written + 0 = omega arith in

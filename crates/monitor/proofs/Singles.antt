@@ -20,11 +20,11 @@ use Rattle.monitor.specs.declared.State.{State}
 use Rattle.monitor.specs.Step.{Told, refused, blamed, forwarded, Outcome, refusing, blaming, forwarding, stepping}
 use Rattle.monitor.specs.Due.{Awaited, of-side, awaited, first-length, due-at, due}
 use Rattle.monitor.specs.Due as Due
-use Rattle.monitor.specs.Conversation.{Sent, Event, event, is-forwarded}
+use Rattle.monitor.specs.Conversation.{Sent, Event, event, is-refused, is-forwarded}
 use Rattle.monitor.specs.Batch.{Lane, used-by, written-by, taken, taking, Batch, latest, device-took, host-took}
 use Rattle.monitor.specs.Batch.{turn-of, one-turn, go-on, turns, begun}
 use Rattle.monitor.specs.Batches.{Left, output-for, left-after, HandsOut, Single, Singly, none-due, stops, goes-on}
-use Rattle.monitor.specs.Batches.{is-refused, used-on, passed-from, lane-after, state-after, last-answer, summed, onto-lane, onto, left-by, BatchSingly}
+use Rattle.monitor.specs.Batches.{used-on, passed-from, lane-after, state-after, last-answer, summed, onto-lane, onto, left-by, BatchSingly}
 use Rattle.monitor.specs.Turns.{is-last-forwarded}
 use Rattle.monitor.proofs.Asking.{turn-its, zero-or, Way, refuses, forwards, blames, way}
 use Rattle.monitor.proofs.Waiting.{first-within, first-cut}
@@ -331,7 +331,7 @@ module _ (t : Words) (s : State) (l : Left) where
 -- ---- a batch is single steps
 
 not-on : (v : Told) → (v ≡ forwarded → ⊥) → is-last-forwarded (some v) ≡ false
-unfolding is-last-forwarded
+unfolding is-last-forwarded is-forwarded
 not-on (refused q) n = refl
 not-on (blamed side r f) n = refl
 not-on forwarded n = absurd (n refl)

@@ -19,7 +19,7 @@ use Rattle.monitor.specs.Step.{is-running, blame, of-state, Told, refuse
 use Rattle.monitor.specs.Step.{stepping}
 use Rattle.monitor.specs.Due.{of-side, awaited, first-length}
 use Rattle.monitor.specs.Due as Due
-use Rattle.monitor.specs.Conversation.{standing-by, nobody}
+use Rattle.monitor.specs.Conversation.{standing-by, nobody, is-forwarded}
 use Rattle.monitor.specs.Batch.{Lane, used-by, written-by, Taken, taken, taking, Batch, latest, device-took, host-took, turn-of}
 use Rattle.monitor.specs.Batch.{one-turn, turns, batch-questions, begun, batching}
 use Rattle.monitor.specs.Turns.{Within, is-last-forwarded}
@@ -76,7 +76,7 @@ module _ (t : Words) (s : State) (side : Party) (bytes : List ℕ) (l : Lane) wh
 
   stop-by : (n : ℕ) (message : List ℕ) (x : Outcome) → Way t s side message (drop (l .written) (l .output)) x
       → is-last-forwarded (some (x .verdict)) ≡ false → Stop (taken n x l)
-  unfolding taken blaming forwarding is-last-forwarded
+  unfolding taken blaming forwarding is-last-forwarded is-forwarded
   stop-by n message x (refuses q e z) h = refuses-it q (lane-still q n)
   stop-by n message x (blames e r f z) h = blames-it (blame-stops side)
   stop-by n message x (forwards e j z) h = never refl h
@@ -111,7 +111,7 @@ module _ (t : Words) (device host : List ℕ) where
       }
 
   over-none : (b : Batch) (q : ℕ) → awaited t (b .state) ≡ Due.refused q → Over b
-  unfolding turn-of is-last-forwarded
+  unfolding turn-of is-last-forwarded is-forwarded
   over-none b q e = over-by b (none, b) (turn-is t device host b (Due.refused q) e) refl refl
 
   over-blamed : (b : Batch) → is-running (b .state .standing) ≡ false → Over b
@@ -125,7 +125,7 @@ module _ (t : Words) (device host : List ℕ) where
     after-device : awaited t (b .state) ≡ of-side Device
         → Stop t (b .state) Device device (b .device) (taking t (b .state) Device device (b .device))
         → Over (device-took (taking t (b .state) Device device (b .device)) b .1)
-    unfolding device-took turn-of is-last-forwarded latest
+    unfolding device-took turn-of is-last-forwarded is-forwarded latest
     after-device e (not-due g) =
         subst (λ x. Over (device-took x b .1)) (sym g)
         (over-by b (none, b) (turn-is t device host b (of-side Device) e ∙ ap (λ x. device-took x b) g) refl refl)
@@ -138,7 +138,7 @@ module _ (t : Words) (device host : List ℕ) where
     after-host : awaited t (b .state) ≡ of-side Host
         → Stop t (b .state) Host host (b .host) (taking t (b .state) Host host (b .host))
         → Over (host-took (taking t (b .state) Host host (b .host)) b .1)
-    unfolding host-took turn-of is-last-forwarded latest
+    unfolding host-took turn-of is-last-forwarded is-forwarded latest
     after-host e (not-due g) =
         subst (λ x. Over (host-took x b .1)) (sym g)
         (over-by b (none, b) (turn-is t device host b (of-side Host) e ∙ ap (λ x. host-took x b) g) refl refl)

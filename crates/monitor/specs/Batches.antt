@@ -2,7 +2,7 @@
 -- of the messages that they take.
 -- Assumes nothing.
 use mathlib.Core.Path.{_≡_}
-use mathlib.Core.Bool.{Bool, true, false, not, _&&_, cond}
+use mathlib.Core.Bool.{true, not, _&&_, cond}
 use mathlib.Core.List.{List, [], _∷_, _++_, map}
 use mathlib.Core.Option.{Option, none, some}
 use Prim.Native.Nat.{ℕ, _+_, _≤_}
@@ -15,9 +15,9 @@ use Rattle.table.specs.declared.Party.the-variants.{Device, Host}
 use Rattle.message.specs.Message.{well-formed}
 use Rattle.message.specs.Rules.{Rules, table-rules}
 use Rattle.monitor.specs.declared.State.{State}
-use Rattle.monitor.specs.Step.{fresh, is-running, Told, refused, blamed, forwarded}
+use Rattle.monitor.specs.Step.{fresh, is-running, Told, refused, forwarded}
 use Rattle.monitor.specs.Due.{of-side, awaited, due}
-use Rattle.monitor.specs.Conversation.{Event, event, conversation, is-forwarded, Watched}
+use Rattle.monitor.specs.Conversation.{Event, event, conversation, is-refused, is-forwarded, Watched}
 use Rattle.monitor.specs.Batch.{Lane, Batch, latest, batch-questions, begun, batching}
 use denote.Ref.{RefT, now}
 
@@ -62,11 +62,6 @@ pub data Singly (t : Words) : State → Left → List Event → Type 0 where
 -- ---- what they come to
 
 -- bytes used on a side: those of its forwarded and blamed messages, which are those that no step refused
-unfoldable pub is-refused : Told → Bool
-is-refused (refused q) = true
-is-refused (blamed side r f) = false
-is-refused forwarded = false
-
 unfoldable pub used-on : Party → List Event → ℕ
 used-on side [] = 0
 used-on side (e ∷ r) =

@@ -17,8 +17,9 @@ use Rattle.monitor.specs.declared.batch.Passed.{Passed}
 use Rattle.monitor.specs.declared.batch.Batched.{Batched}
 use Rattle.monitor.specs.declared.lane.Taken.{Taken}
 use Rattle.monitor.specs.declared.batch.Turned.{Turned}
-use Rattle.monitor.specs.Step.{Told, refused, blamed, forwarded}
+use Rattle.monitor.specs.Step.{Told, forwarded}
 use Rattle.monitor.specs.Due.{of-side, awaited}
+use Rattle.monitor.specs.Conversation.{is-forwarded}
 use Rattle.monitor.specs.Batch.{Batch, taking, one-turn, last-of, batched}
 use Rattle.monitor.specs.Batch as B
 
@@ -38,11 +39,10 @@ pub record Within (t : Words) (device host : List ℕ) (b : Batch) : Type 0 wher
   pub from-device : LaneIn device (b .device)
   pub from-host : LaneIn host (b .host)
 
+-- a message was due, and was forwarded
 unfoldable pub is-last-forwarded : Option Told → Bool
 is-last-forwarded none = false
-is-last-forwarded (some (refused q)) = false
-is-last-forwarded (some (blamed side r f)) = false
-is-last-forwarded (some forwarded) = true
+is-last-forwarded (some v) = is-forwarded v
 
 -- from one batch to another by turns that forward
 pub data Led (t : Words) (device host : List ℕ) (b : Batch) : Batch → Type 0 where

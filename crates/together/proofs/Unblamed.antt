@@ -16,10 +16,10 @@ use Rattle.table.proofs.Lists.{never, both, join}
 use Rattle.message.specs.Message.{read, well-formed}
 use Rattle.message.specs.Rules.{Rules, table-rules, Said, turn, next, leads, led}
 use Rattle.message.proofs.Judging.{none-some, some-eq}
-use Rattle.monitor.specs.Step.{fresh, Told, refused, blamed, forwarded, Outcome, outcome}
+use Rattle.monitor.specs.Step.{Told, refused, blamed, forwarded, Outcome, outcome}
 use Rattle.monitor.proofs.Demand.{or-else, blamed-append, forwarded-append, leads-more, next-in-turn, demand-two, replies-kept}
-use Rattle.monitor.specs.Conversation.{Sent, Event, event, conversation, said-by, is-forwarded, forwarded-ones, blamed-else, blamed-first, Judgeable, Met, WatchedTable, Reply}
-use Rattle.fit.specs.Machine.{Standing, running, device-blamed, jammed, Machine, Move, moves, Effect, nothing, forward, halt, from-device, from-host, while-running, arrived, fresh-machine, by-side, effect, does, after, move, play, run, bad, Safe}
+use Rattle.monitor.specs.Conversation.{Sent, Event, conversation, said-by, is-forwarded, forwarded-ones, blamed-else, blamed-first, Judgeable, Met, WatchedTable, Reply}
+use Rattle.fit.specs.Machine.{Standing, running, device-blamed, jammed, Machine, Move, moves, Effect, forward, halt, from-device, from-host, while-running, arrived, fresh-machine, by-side, effect, does, after, move, play, run, bad, Safe}
 use Rattle.together.specs.Unblamed.{FitsUnblamed, RepliesUnblamed}
 
 -- ---- lists in a row

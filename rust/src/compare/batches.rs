@@ -4,10 +4,10 @@
 
 use super::both::{batch_codes, state, state_after, Both};
 use super::endings::{count, Batched};
-use super::steps::UNTOUCHED;
+use super::steps::{anywhere, Odds, UNTOUCHED};
 use super::{both, show, Outcome, Tally};
 use crate::proved::{ffi, Batch, Party, Question, Standing, State, Table, Verdict};
-use crate::second::random::{damaged_table, endless_table, ragged, sound_table, walk, with_noise, Random, Waiting, COLUMNS};
+use crate::second::random::{endless_table, ragged, sound_table, walk, Random, Waiting};
 use crate::second::table::{self, Raw};
 use crate::second::{batch, text};
 
@@ -58,22 +58,11 @@ impl Given {
 /// One batch at any state of a table, whole and in two pieces.
 pub fn case(random: &mut Random, tally: &mut Tally) -> Outcome {
     let sound = protocol(random);
-    let mut columns = Raw::of(&sound);
-    if random.one_in(2) {
-        columns = with_noise(random, &columns);
-    }
-    if random.one_in(24) {
-        let column = random.below(COLUMNS);
-        columns = damaged_table(random, &columns, column);
-    }
-    let both = Both::of(&columns);
-    let beyond = usize::from(random.one_in(24));
-    let position = random.below(sound.states.len() + beyond);
-    let standing = if random.one_in(16) { *random.pick(&[1, 2, 3, 4, 127, 128, 255]) } else { 0 };
-    let state = State { position: position as u8, standing: Standing(standing) };
+    let (both, state) = anywhere(random, &sound, Odds { damaged: 24, beyond: 24, stopped: 16 });
+    let position = usize::from(state.position).min(sound.states.len() - 1);
     let messages = *random.pick(&[1, 2, 5, 20, 60, 200, 400]);
     let faults = *random.pick(&[0, 4, 20, 200]);
-    let mut waiting = walk(random, &sound, position.min(sound.states.len() - 1), messages, faults);
+    let mut waiting = walk(random, &sound, position, messages, faults);
     ragged(random, &sound, &mut waiting.device);
     ragged(random, &sound, &mut waiting.host);
     let (device_room, host_room) = (room(random, waiting.host.len()), room(random, waiting.device.len()));

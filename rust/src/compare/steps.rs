@@ -5,7 +5,7 @@ use super::{show, Outcome, Tally};
 use crate::proved::{ffi, Question, Standing, State};
 use crate::second::monitor::{awaited, due, step, turn, Side};
 use crate::second::random::{damaged_message, damaged_table, message_for, sound_table, waiting, with_noise, Random, COLUMNS};
-use crate::second::table::Raw;
+use crate::second::table::{Raw, Table};
 
 /// A byte of the output before the call.
 pub const UNTOUCHED: u8 = 0xEE;
@@ -36,20 +36,8 @@ impl Given {
 pub fn case(random: &mut Random, tally: &mut Tally) -> Outcome {
     let (states, branches) = *random.pick(&[(3, 4), (6, 12), (12, 20)]);
     let sound = sound_table(random, states, branches);
-    let mut columns = Raw::of(&sound);
-    if random.one_in(2) {
-        columns = with_noise(random, &columns);
-    }
-    if random.one_in(16) {
-        let column = random.below(COLUMNS);
-        columns = damaged_table(random, &columns, column);
-    }
-    let both = Both::of(&columns);
-    let beyond = usize::from(random.one_in(8));
-    let position = random.below(sound.states.len() + beyond);
-    let standing = if random.one_in(6) { *random.pick(&[1, 2, 3, 4, 127, 128, 255]) } else { 0 };
-    let state = State { position: position as u8, standing: Standing(standing) };
-    let spoken = position.min(sound.states.len() - 1);
+    let (both, state) = anywhere(random, &sound, Odds { damaged: 16, beyond: 8, stopped: 6 });
+    let spoken = usize::from(state.position).min(sound.states.len() - 1);
     let mut side = turn(sound.states[spoken]).unwrap_or(*random.pick(&[Side::Device, Side::Host]));
     if random.one_in(8) {
         side = if side == Side::Device { Side::Host } else { Side::Device };
@@ -64,6 +52,29 @@ pub fn case(random: &mut Random, tally: &mut Tally) -> Outcome {
     nobodys_step(random, &given, &both, tally)?;
     let (device, host) = (waiting(random, &sound), waiting(random, &sound));
     due_of(&given, &both, &device, &host, tally)
+}
+
+/// How seldom something is wrong from the start: once in so many.
+pub struct Odds {
+    pub damaged: usize,
+    pub beyond: usize,
+    pub stopped: usize,
+}
+
+/// A sound table with noise where nothing looks, at times damaged, and any state: at times beyond the table, or not running.
+pub fn anywhere(random: &mut Random, sound: &Table, odds: Odds) -> (Both, State) {
+    let mut columns = Raw::of(sound);
+    if random.one_in(2) {
+        columns = with_noise(random, &columns);
+    }
+    if random.one_in(odds.damaged) {
+        let column = random.below(COLUMNS);
+        columns = damaged_table(random, &columns, column);
+    }
+    let beyond = usize::from(random.one_in(odds.beyond));
+    let position = random.below(sound.states.len() + beyond);
+    let standing = if random.one_in(odds.stopped) { *random.pick(&[1, 2, 3, 4, 127, 128, 255]) } else { 0 };
+    (Both::of(&columns), State { position: position as u8, standing: Standing(standing) })
 }
 
 /// The step through both: verdict, all its bytes, state, and every byte of the output. Gives back the state after it.
