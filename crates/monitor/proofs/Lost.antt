@@ -4,7 +4,7 @@
 use mathlib.Core.Path.{_≡_, refl, sym, ap, subst, _∙_}
 use mathlib.Core.Logic.{⊎-elim}
 use mathlib.Core.Bool.{Bool, true, false, cond}
-use mathlib.Core.List.{List, [], _∷_, _++_, append-assoc, append-nil}
+use mathlib.Core.List.{List, [], _∷_, _++_, append-assoc, append-nil, flatten}
 use mathlib.Core.Option.{Option, none, some}
 use Prim.Native.Nat.{ℕ, suc, _+_, _≤_}
 use native.Mathlib.Omega.{arith}
@@ -24,7 +24,7 @@ use Rattle.monitor.specs.Step.{is-running, Told, refused, Outcome, refus
 use Rattle.monitor.specs.Due.{first-length}
 use Rattle.monitor.specs.Batch.{Lane, used-by, written-by, Taken, taken, taking, Batch, device-took, host-took, one-turn}
 use Rattle.monitor.specs.Batch.{turns, batch-questions, begun, batching}
-use Rattle.monitor.specs.Batches.{Left, joined, Messages, Accounted, NothingLostOf, NothingLost}
+use Rattle.monitor.specs.Batches.{Left, Messages, Accounted, NothingLostOf, NothingLost}
 use Rattle.monitor.specs.Conversation.{is-forwarded}
 use Rattle.monitor.specs.Turns.{is-last-forwarded}
 use Rattle.monitor.proofs.Asking.{zero-or, Way, refuses, forwards, blames, way}
@@ -35,10 +35,10 @@ use Rattle.monitor.proofs.Turning.{turns-keep, blame-stops}
 -- ---- one message more
 
 module _ (m : List ℕ) where
-  joined-last : (row : List (List ℕ)) → joined (row ++ (m ∷ [])) ≡ joined row ++ m
-  unfolding joined
-  joined-last [] = append-nil m
-  joined-last (x ∷ r) = ap (λ l. x ++ l) (joined-last r) ∙ sym (append-assoc x (joined r) m)
+  flatten-last : (row : List (List ℕ)) → flatten (row ++ (m ∷ [])) ≡ flatten row ++ m
+  unfolding flatten
+  flatten-last [] = append-nil m
+  flatten-last (x ∷ r) = ap (λ l. x ++ l) (flatten-last r) ∙ sym (append-assoc x (flatten r) m)
 
 -- a side's bytes, and the other side's output as it was
 module _ (bytes before : List ℕ) where
@@ -47,11 +47,11 @@ module _ (bytes before : List ℕ) where
   more-messages k n (row, e, j) f = (
     row ++ (take n (drop k bytes) ∷ []),
     every-append well-formed row (take n (drop k bytes) ∷ []) e (join f refl),
-    joined-last (take n (drop k bytes)) row ∙ ap (λ l. l ++ take n (drop k bytes)) j ∙ sym (take-add k n bytes),
+    flatten-last (take n (drop k bytes)) row ∙ ap (λ l. l ++ take n (drop k bytes)) j ∙ sym (take-add k n bytes),
   )
 
   nothing : Accounted bytes before (record { used = 0; written = 0; output = before })
-  unfolding every joined
+  unfolding every flatten
   nothing = record { used = omega arith; messages = ([], refl, refl); passed = ([], refl, refl); written = omega arith; forwards = refl }
 
   -- as long as every message was forwarded

@@ -3,7 +3,7 @@
 -- Assumes nothing.
 use mathlib.Core.Path.{_≡_}
 use mathlib.Core.Bool.{true, not, _&&_, cond}
-use mathlib.Core.List.{List, [], _∷_, _++_, map}
+use mathlib.Core.List.{List, [], _∷_, _++_, map, flatten}
 use mathlib.Core.Option.{Option, none, some}
 use Prim.Native.Nat.{ℕ, _+_, _≤_}
 use lib.ListN.{length, take, drop}
@@ -144,14 +144,9 @@ BatchInTwo =
 
 -- ---- no byte is lost
 
--- messages one behind the other
-unfoldable pub joined : List (List ℕ) → List ℕ
-joined [] = []
-joined (m ∷ r) = m ++ joined r
-
--- the first n of these bytes are whole messages
+-- the first n of these bytes are whole messages, one behind the other
 abbrev pub Messages : List ℕ → ℕ → Type 0
-Messages bytes n = (row : List (List ℕ)) × (every well-formed row ≡ true) × (joined row ≡ take n bytes)
+Messages bytes n = (row : List (List ℕ)) × (every well-formed row ≡ true) × (flatten row ≡ take n bytes)
 
 -- of a side's waiting bytes and the other side's output: what is used are whole messages, of which the first are forwarded, unchanged and
 -- in their order; the other bytes wait still, and the rest of the output is unchanged
