@@ -54,6 +54,10 @@ low-at t k = getD t (1186 + k) 0
 abbrev pub high-at : Words → ℕ → ℕ
 high-at t k = getD t (1698 + k) 0
 
+-- a branch's share, 0 for none
+abbrev pub share-at : Words → ℕ → ℕ
+share-at t k = getD t (2210 + k) 0
+
 abbrev pub field-at : Words → ℕ → T.Field
 field-at t k = record { kind = kind-at t k; low = low-at t k; high = high-at t k }
 
@@ -87,19 +91,30 @@ branch-at t k =
     }
 
 unfoldable pub view : Words → T.Table
-view t = record { sorts = upto (states-of t) (λ i. sort-of (sort-at t i)); branches = upto (branches-of t) (branch-at t) }
+view t =
+    record {
+      sorts = upto (states-of t) (λ i. sort-of (sort-at t i));
+      branches = upto (branches-of t) (branch-at t);
+      shares = upto (branches-of t) (share-at t);
+    }
 
 -- what only a raw table can break and `view` does not show: a sort's code that is none
 unfoldable pub known : Words → Bool
 known t = every (λ c. leb c 2) (upto (states-of t) (sort-at t))
 
--- question 9: is the table sound?
+-- question 9: is the table sound, and do its shares keep their rules?
 unfoldable pub sound-of : Words → Bool
-sound-of t = known t && T.sound (view t)
+sound-of t = known t && T.sound (view t) && T.shares-kept (view t)
 
 -- question 9 where a position is given: is it one of the table's states, too?
 unfoldable pub sound-at : Words → ℕ → Bool
 sound-at t position = sound-of t && ltb position (states-of t)
+
+-- two sound tables that differ in shares only
+pub record SharesAside (t u : Words) : Type 0 where
+  pub one : sound-of t ≡ true
+  pub other : sound-of u ≡ true
+  pub same : T.unshared (view t) ≡ T.unshared (view u)
 
 -- ---- the dual
 

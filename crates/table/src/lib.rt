@@ -10,6 +10,7 @@ ghost use Rattle.table.specs.Scans.{Word};
 mod apart;
 mod branches;
 mod letters;
+mod shares;
 mod states;
 
 pub enum Party {
@@ -23,7 +24,8 @@ pub enum Party {
 //   the first four, the first of them highest;
 // - 512 kinds (0 int, 1 text, 2 flag), lows and highs: field f of branch b has place 4 * b + f. Numbers are in offset form, 2^31 more
 //   than what they stand for: an int, a text's length in bytes, 0 for false, 1 for true.
-// Words 2210 to 2339 are room for an edition and for a share of each branch. Nothing looks at them, nor at what is beyond the counts.
+// - 128 shares, in thousandths, 0 for none.
+// Words 2338 and 2339 are room for an edition. Nothing looks at them, nor at what is beyond the counts.
 pub type Table = [u32; 2340];
 
 pub const STATES: usize = 0;
@@ -48,7 +50,9 @@ pub const LOW: usize = 1186;
 
 pub const HIGH: usize = 1698;
 
-// Question 9: is the table sound? The states that are choices are those that own a branch.
+pub const SHARE: usize = 2210;
+
+// Question 9: is the table sound? The states that are choices are those that own a branch. Do its shares keep their rules?
 pub fn sound(t: &Table) -> bool
     ensures { λ r. ⌜ r ≡ sound-of (now (t .entry)) ⌝ }
 {
@@ -71,7 +75,13 @@ pub fn sound(t: &Table) -> bool
     if !owners.ok {
         return false;
     }
-    owners.set == choices.set
+    if owners.set != choices.set {
+        return false;
+    }
+    if owners.shares == 0 {
+        return true;
+    }
+    shares::right(t, n as usize, m as usize)
 }
 
 // Question 9 where a position is given: is it one of the table's states, too?
@@ -84,7 +94,7 @@ pub fn sound_at(t: &Table, position: u32) -> bool
     position < t[STATES]
 }
 
-// What a pass finds: whether all is right, and then a set of states.
+// What the pass over states finds: whether all is right, and then the set of the choices.
 struct Scan {
     ok: bool,
     set: u32,
