@@ -11,10 +11,10 @@ use Rattle.table.specs.Lists.{first-no}
 use Rattle.text.proofs.Asked.{asked}
 use Rattle.table.specs.Table.{Table}
 use Rattle.text.specs.Token.{word-in}
-use Rattle.text.specs.Number.{Signed, signed-in, offset, in-kind}
+use Rattle.text.specs.Number.{Signed, signed-in, offset, in-kind, in-share}
 use Rattle.text.specs.Grammar.{Tok, word, number, sign, tok-of, or-else}
 use Rattle.text.specs.Building.{label-used, denied}
-use Rattle.text.specs.Reading.{Item, just, name, label, type, more, fields, field, low, high, more-fields, Open, State, state, open-in, table-in, next-item, meaning, unguarded, owner-in, admits, as-type, is-found, number-in-range, as-label, token-formed, grammar-allows, name-bound, guarded, ranged, new-label, within, target, began, taken, run-tokens, questions}
+use Rattle.text.specs.Reading.{Item, just, name, label, type, more, fields, field, low, high, more-fields, dot, share, Open, State, state, open-in, table-in, next-item, meaning, unguarded, owner-in, admits, as-type, is-found, number-in-range, as-share, as-label, token-formed, grammar-allows, name-bound, guarded, ranged, share-ranged, new-label, within, shares-add, target, began, taken, run-tokens, questions}
 use Rattle.text.specs.declared.token.Token.{Token}
 use Rattle.text.proofs.Toks.{word-kind, number-kind, kind-word, kind-number}
 use Rattle.text.proofs.Goes.{first-is, rest-is, never-empty, passed}
@@ -64,6 +64,8 @@ module _ (s u : List ℕ) (k j : Token) (same : tok-of s k ≡ tok-of u j) where
   type-same f (low κ) = refl
   type-same f (high κ l) = refl
   type-same f more-fields = refl
+  type-same f dot = refl
+  type-same f share = refl
 
   range-same : (i : Item) → admits i (k .kind) ≡ true → number-in-range s k i ≡ number-in-range u j i
   range-same (just n) a = refl
@@ -76,6 +78,22 @@ module _ (s u : List ℕ) (k j : Token) (same : tok-of s k ≡ tok-of u j) where
   range-same (low κ) a = ap (in-kind κ) (number-same a)
   range-same (high κ l) a = ap (λ (n : Signed). in-kind κ n && not (ltb (offset n) l)) (number-same a)
   range-same more-fields a = refl
+  range-same dot a = refl
+  range-same share a = refl
+
+  share-same : (i : Item) → admits i (k .kind) ≡ true → cond (as-share i) (in-share (signed-in s k)) true ≡ cond (as-share i) (in-share (signed-in u j)) true
+  share-same (just n) a = refl
+  share-same name a = refl
+  share-same label a = refl
+  share-same type a = refl
+  share-same (more σ) a = refl
+  share-same fields a = refl
+  share-same field a = refl
+  share-same (low κ) a = refl
+  share-same (high κ l) a = refl
+  share-same more-fields a = refl
+  share-same dot a = refl
+  share-same share a = ap in-share (number-same a)
 
   label-same : (i : Item) (T : Table) (o : ℕ) → admits i (k .kind) ≡ true
       → cond (as-label i) (not (label-used T o (word-in s k))) true ≡ cond (as-label i) (not (label-used T o (word-in u j))) true
@@ -89,6 +107,8 @@ module _ (s u : List ℕ) (k j : Token) (same : tok-of s k ≡ tok-of u j) where
   label-same (low κ) T o a = refl
   label-same (high κ l) T o a = refl
   label-same more-fields T o a = refl
+  label-same dot T o a = refl
+  label-same share T o a = refl
 
   formed-same : (st : State) → token-formed s st k ≡ token-formed u st j
   unfolding token-formed
@@ -110,6 +130,10 @@ module _ (s u : List ℕ) (k j : Token) (same : tok-of s k ≡ tok-of u j) where
   unfolding grammar-allows ranged
   ranged-same st a = range-same (next-item st) a
 
+  shared-same : (st : State) → grammar-allows s st k ≡ true → share-ranged s st k ≡ share-ranged u st j
+  unfolding grammar-allows share-ranged
+  shared-same st a = share-same (next-item st) a
+
   new-same : (st : State) → grammar-allows s st k ≡ true → new-label s st k ≡ new-label u st j
   unfolding grammar-allows new-label
   new-same st a = label-same (next-item st) (table-in st) (owner-in (open-in st)) a
@@ -118,18 +142,24 @@ module _ (s u : List ℕ) (k j : Token) (same : tok-of s k ≡ tok-of u j) where
   unfolding within
   within-same st = rw kind-same
 
+  added-same : (st : State) → shares-add s st k ≡ shares-add u st j
+  unfolding shares-add
+  added-same st = rw kind-same
+
   asked-same : (st : State) → asked s st k ≡ asked u st j
   unfolding first-no questions
   asked-same st =
-      rw (formed-same st, named-same st, guarded-same st, within-same st)
-      (behind (token-formed u st j) (λ r n. cond (name-bound u st j) (cond (guarded u st j) (cond r (cond n (cond (within u st j) 0 8) 7) 6) 5) 4)
-      (grammar-allows s st k) (grammar-allows u st j) (ranged s st k) (ranged u st j) (new-label s st k) (new-label u st j) (allowed-same st) (ranged-same st) (new-same st))
+      rw (formed-same st, named-same st, guarded-same st, within-same st, added-same st)
+      (behind (token-formed u st j)
+      (λ r x n. cond (name-bound u st j) (cond (guarded u st j) (cond r (cond x (cond n (cond (within u st j) (cond (shares-add u st j) 0 20) 8) 7) 19) 6) 5) 4)
+      (grammar-allows s st k) (grammar-allows u st j) (ranged s st k) (ranged u st j) (share-ranged s st k) (share-ranged u st j) (new-label s st k) (new-label u st j) (allowed-same st)
+      (ranged-same st) (shared-same st) (new-same st))
     where
       -- after 3, what is asked may go by 3
-      behind : (w : Bool) (f : Bool → Bool → ℕ) (a b r q n m : Bool) → a ≡ b → (a ≡ true → r ≡ q) → (a ≡ true → n ≡ m)
-          → cond w (cond a (f r n) 3) 2 ≡ cond w (cond b (f q m) 3) 2
-      behind w f true b r q n m e g h = rw (← e, g refl, h refl)
-      behind w f false b r q n m e g h = rw (← e)
+      behind : (w : Bool) (f : Bool → Bool → Bool → ℕ) (a b r q x y n m : Bool) → a ≡ b → (a ≡ true → r ≡ q) → (a ≡ true → x ≡ y) → (a ≡ true → n ≡ m)
+          → cond w (cond a (f r x n) 3) 2 ≡ cond w (cond b (f q y m) 3) 2
+      behind w f true b r q x y n m e g i h = rw (← e, g refl, i refl, h refl)
+      behind w f false b r q x y n m e g i h = rw (← e)
 
   -- ---- the state after the token
 
@@ -154,6 +184,8 @@ module _ (s u : List ℕ) (k j : Token) (same : tok-of s k ≡ tok-of u j) where
   taken-same (state (low κ ∷ E) O b T) a = rw (number-same a)
   taken-same (state (high κ l ∷ E) O b T) a = rw (number-same a)
   taken-same (state (more-fields ∷ E) O b T) a = rw kind-same
+  taken-same (state (dot ∷ E) O b T) a = rw kind-same
+  taken-same (state (share ∷ E) O b T) a = rw (number-same a)
 
 -- ---- the first token that gets a no
 

@@ -3,6 +3,7 @@
 use mathlib.Core.Path.{_≡_, refl}
 use mathlib.Core.Bool.{Bool, _&&_}
 use mathlib.Core.List.{List, [], _∷_}
+use mathlib.Core.Option.{none, some}
 use Prim.Native.Nat.{ℕ, _+_, _-_, _*_, _≤_}
 use native.Mathlib.Omega.{arith}
 use lib.Dec.{leb}
@@ -11,11 +12,11 @@ use Rattle.table.specs.Lists.{every}
 use Rattle.table.proofs.Lists.{both, join, never}
 use Rattle.text.specs.Number.{value-of}
 use Rattle.text.specs.Filled.{came-out, filled}
-use Rattle.text.specs.Grammar.{SyntaxField, Ty, stop, var, loop, choice, Br, last, also, Tok, sign, arrow, print-more, print-fields, print, print-br, table-of}
+use Rattle.text.specs.Grammar.{SyntaxField, Share, Ty, stop, var, loop, choice, Br, last, also, Tok, sign, arrow, print-more, print-fields, print-share, print, print-br, table-of}
 use Rattle.text.proofs.Bytes.{upper-word}
 use Rattle.text.proofs.Packed.{label-word}
 use Rattle.spelling.specs.Spelling.{a-digit, Digits, Spells, a-sign, a-dot, a-word, a-name, a-zero, a-number, a-negative, Spelt, ran-out, a-blank, a-token}
-use Rattle.spelling.specs.Speller.{spell, Writable, OfFields, Of, OfBr}
+use Rattle.spelling.specs.Speller.{spell, Writable, OfFields, OfShare, Of, OfBr}
 use Rattle.spelling.specs.Theorems.{SpellableExactly, SpellRead}
 use Rattle.spelling.proofs.Read.{read-spelt}
 use Rattle.spelling.proofs.Spell.{spell-spelt}
@@ -66,6 +67,10 @@ fields-written : (fs : List SyntaxField) (ts : List Tok) → Written (print-fiel
 fields-written [] ts w = (tt, w .1)
 fields-written (f ∷ fs) ts w = let a = more-written fs ts (w .1 .1 .1 .1 .1 .1) in ((w .1 .1 .0, (w .1 .1 .1 .1 .0, a .0)), a .1)
 
+share-written : (sh : Share) (ts : List Tok) → Written (print-share sh ts) → OfShare Writable sh × Written ts
+share-written none ts w = (tt, w)
+share-written (some n) ts w = (w .1 .0, w .1 .1)
+
 mutual
   pub print-written : (t : Ty) (ts : List Tok) → Written (print t ts) → Of Writable t × Written ts
   print-written stop ts w = (tt, w .1)
@@ -74,15 +79,19 @@ mutual
   print-written (choice v bs) ts w = branches-written bs (arrow v) ts (w .1 .1)
 
   branches-written : (bs : Br) (σ : ℕ) (ts : List Tok) → Written (print-br bs σ ts) → OfBr Writable bs × Written ts
-  branches-written (last l fs t) σ ts w =
-      let a = fields-written fs (sign 46 ∷ print t (sign 125 ∷ ts)) (w .1 .1 .1) in
-      let b = print-written t (sign 125 ∷ ts) (a .1 .1) in
-      ((w .1 .0, (a .0, b .0)), b .1 .1)
-  branches-written (also l fs t bs) σ ts w =
-      let a = fields-written fs (sign 46 ∷ print t (sign 44 ∷ print-br bs σ ts)) (w .1 .1 .1) in
-      let b = print-written t (sign 44 ∷ print-br bs σ ts) (a .1 .1) in
+  branches-written (last l fs sh t) σ ts w =
+      let us = sign 46 ∷ print t (sign 125 ∷ ts) in
+      let a = fields-written fs (print-share sh us) (w .1 .1 .1) in
+      let d = share-written sh us (a .1) in
+      let b = print-written t (sign 125 ∷ ts) (d .1 .1) in
+      ((w .1 .0, (a .0, (d .0, b .0))), b .1 .1)
+  branches-written (also l fs sh t bs) σ ts w =
+      let us = sign 46 ∷ print t (sign 44 ∷ print-br bs σ ts) in
+      let a = fields-written fs (print-share sh us) (w .1 .1 .1) in
+      let d = share-written sh us (a .1) in
+      let b = print-written t (sign 44 ∷ print-br bs σ ts) (d .1 .1) in
       let c = branches-written bs σ ts (b .1 .1) in
-      ((w .1 .0, (a .0, (b .0, c .0))), c .1)
+      ((w .1 .0, (a .0, (d .0, (b .0, c .0)))), c .1)
 
 -- ---- the theorems
 

@@ -12,7 +12,7 @@ use Rattle.text.specs.Grammar.{stop, Tok, sign, print-text, tok-of}
 use Rattle.text.proofs.Toks.{tag, sign-in}
 use Rattle.spelling.specs.Spelling.{Spelt}
 use Rattle.spelling.specs.Theorems.{WellFormed}
-use Rattle.spelling.specs.Examples.{P-type, Examples}
+use Rattle.spelling.specs.Examples.{P-type, two-shares, Examples}
 use Rattle.spelling.proofs.Scan.{spelt-scanned}
 use Rattle.spelling.proofs.Read.{text-formed}
 
@@ -35,6 +35,7 @@ examples = record {
   negative = spelt-scanned _ _ .1 (refl, ((λ e. omega (arith, ap tag e)), ((λ e. omega (arith, ap sign-in e)), tt)));
   minus-zero = λ ts. nothing-spelt _ _ ts refl;
   leading-zero = λ ts. nothing-spelt _ _ ts refl;
+  share = spelt-scanned _ (print-text two-shares) .1 (refl, text-formed two-shares);
   three-dots = λ ts. nothing-spelt _ _ ts refl;
   other-word = λ ts. nothing-spelt _ _ ts refl;
 }

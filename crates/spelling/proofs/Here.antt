@@ -122,7 +122,7 @@ IsWord k w = (every letter-or-digit w ≡ true) × (class-of (getD w 0 0) ≡ Lo
 
 all-signs : Each IsSign sign-tokens
 unfolding class-of
-all-signs = ((refl, refl, refl), ((refl, refl, refl), ((refl, refl, refl), ((refl, refl, refl), ((refl, refl, refl), ((refl, refl, refl), ((refl, refl, refl), ((refl, refl, refl), ((refl, refl, refl), ((refl, refl, refl), ((refl, refl, refl), tt)))))))))))
+all-signs = ((refl, refl, refl), ((refl, refl, refl), ((refl, refl, refl), ((refl, refl, refl), ((refl, refl, refl), ((refl, refl, refl), ((refl, refl, refl), ((refl, refl, refl), ((refl, refl, refl), ((refl, refl, refl), ((refl, refl, refl), ((refl, refl, refl), tt))))))))))))
 
 all-dots : Each IsDot dot-tokens
 unfolding class-of every

@@ -3,12 +3,13 @@
 use mathlib.Core.Path.{_≡_, refl}
 use mathlib.Core.Bool.{true}
 use mathlib.Core.List.{List, [], _∷_, _++_}
+use mathlib.Core.Option.{none, some}
 use Prim.Native.Nat.{ℕ}
 use Rattle.text.specs.Token.{one-of}
 use Rattle.text.specs.Number.{Signed}
-use Rattle.text.specs.Grammar.{Way, sending, receiving, Kind, int, text, flag, SyntaxField, Ty, stop, var, loop, choice, Br, last, also, Tok, word, number, sign, mark, arrow, letter, print-field, print-more, print-fields, print-head, print, print-br}
+use Rattle.text.specs.Grammar.{Way, sending, receiving, Kind, int, text, flag, SyntaxField, Share, Ty, stop, var, loop, choice, Br, last, also, Tok, word, number, sign, mark, arrow, letter, print-field, print-more, print-fields, print-share, print-head, print, print-br}
 use Rattle.spelling.specs.Spelling.{sign-tokens, dot-tokens, word-tokens}
-use Rattle.spelling.specs.Speller.{OfFields, Of, OfBr}
+use Rattle.spelling.specs.Speller.{OfFields, OfShare, Of, OfBr}
 use Rattle.spelling.proofs.Classes.{kinds}
 
 -- the signs, dots and words of the grammar
@@ -38,8 +39,13 @@ module _ (P : Tok → Type 0) (Q : List Tok → Type 0) (word-on : (x : ℕ) (ts
   fields-hold [] ts o q = put _ _ refl q
   fields-hold (f ∷ fs) ts o q = field-holds f _ (o .0) (o .1 .0) (more-hold fs ts (o .1 .1) q)
 
-  head-holds : (σ l : ℕ) (fs : List SyntaxField) (ts : List Tok) → one-of fixed σ ≡ true → P (word l) → OfFields P fs → Q ts → Q (print-head σ l fs ts)
-  head-holds σ l fs ts e p o q = put _ _ e (word-on _ _ p (put _ _ refl (fields-hold fs _ o (put _ _ refl q))))
+  share-holds : (sh : Share) (ts : List Tok) → OfShare P sh → Q ts → Q (print-share sh ts)
+  share-holds none ts o q = q
+  share-holds (some n) ts o q = put _ _ refl (number-on _ _ o q)
+
+  head-holds : (σ l : ℕ) (fs : List SyntaxField) (sh : Share) (ts : List Tok) → one-of fixed σ ≡ true → P (word l) → OfFields P fs → OfShare P sh → Q ts
+      → Q (print-head σ l fs sh ts)
+  head-holds σ l fs sh ts e p o r q = put _ _ e (word-on _ _ p (put _ _ refl (fields-hold fs _ o (share-holds sh _ r (put _ _ refl q)))))
 
   mutual
     pub print-holds : (t : Ty) (ts : List Tok) → Of P t → Q ts → Q (print t ts)
@@ -49,15 +55,19 @@ module _ (P : Tok → Type 0) (Q : List Tok → Type 0) (word-on : (x : ℕ) (ts
     print-holds (choice w bs) ts o q = put _ _ (is-mark w .0) (put _ _ refl (branches-hold bs (arrow w) ts (is-mark w .1) o q))
 
     branches-hold : (bs : Br) (σ : ℕ) (ts : List Tok) → one-of fixed σ ≡ true → OfBr P bs → Q ts → Q (print-br bs σ ts)
-    branches-hold (last l fs t) σ ts e o q = head-holds σ l fs _ e (o .0) (o .1 .0) (print-holds t _ (o .1 .1) (put _ _ refl q))
-    branches-hold (also l fs t bs) σ ts e o q =
-        head-holds σ l fs _ e (o .0) (o .1 .0) (print-holds t _ (o .1 .1 .0) (put _ _ refl (branches-hold bs σ ts e (o .1 .1 .1) q)))
+    branches-hold (last l fs sh t) σ ts e o q = head-holds σ l fs sh _ e (o .0) (o .1 .0) (o .1 .1 .0) (print-holds t _ (o .1 .1 .1) (put _ _ refl q))
+    branches-hold (also l fs sh t bs) σ ts e o q =
+        head-holds σ l fs sh _ e (o .0) (o .1 .0) (o .1 .1 .0) (print-holds t _ (o .1 .1 .1 .0) (put _ _ refl (branches-hold bs σ ts e (o .1 .1 .1 .1) q)))
 
 -- what holds of all of them
 module _ (P : Tok → Type 0) (w : (x : ℕ) → P (word x)) (n : (x : Signed) → P (number x)) where
   of-fields : (fs : List SyntaxField) → OfFields P fs
   of-fields [] = tt
   of-fields (f ∷ fs) = (n (f .low), (n (f .high), of-fields fs))
+
+  of-share : (sh : Share) → OfShare P sh
+  of-share none = tt
+  of-share (some x) = n x
 
   mutual
     pub of-all : (t : Ty) → Of P t
@@ -67,5 +77,5 @@ module _ (P : Tok → Type 0) (w : (x : ℕ) → P (word x)) (n : (x : Signed) �
     of-all (choice v bs) = of-branches bs
 
     of-branches : (bs : Br) → OfBr P bs
-    of-branches (last l fs t) = (w l, (of-fields fs, of-all t))
-    of-branches (also l fs t bs) = (w l, (of-fields fs, (of-all t, of-branches bs)))
+    of-branches (last l fs sh t) = (w l, (of-fields fs, (of-share sh, of-all t)))
+    of-branches (also l fs sh t bs) = (w l, (of-fields fs, (of-share sh, (of-all t, of-branches bs))))

@@ -1,5 +1,5 @@
--- What a refusal means, said of the tokens that stand in the text: by 2 to 8, since reading goes the same way over the same tokens wherever
--- they stand; by 3, from the grammar, with a text written by the speller.
+-- What a refusal means, said of the tokens that stand in the text: by 2 or a later question, since reading goes the same way over the same
+-- tokens wherever they stand; by 3, from the grammar, with a text written by the speller.
 -- Assumes nothing.
 use mathlib.Core.Path.{_≡_, refl, sym, subst, ap, ap₂, _∙_}
 use mathlib.Core.Bool.{cond, Bool, true, false, not}
@@ -16,7 +16,7 @@ use Rattle.text.specs.Token.{token}
 use Rattle.text.specs.Scanner.{tokens}
 use Rattle.text.specs.Building.{denied}
 use Rattle.text.specs.Filled.{Reading, refused, written}
-use Rattle.text.specs.Reading.{State, token-formed, grammar-allows, name-bound, guarded, ranged, new-label, within, questions, start, run-tokens, built, reads}
+use Rattle.text.specs.Reading.{State, token-formed, grammar-allows, name-bound, guarded, ranged, share-ranged, new-label, within, shares-add, questions, start, run-tokens, built, reads}
 use Rattle.text.proofs.Asked.{asked}
 use Rattle.text.specs.Grammar.{Ty, Tok, word, number, sign, print-text, tok-of}
 use Rattle.text.specs.declared.token.Token.{Token}
@@ -37,7 +37,7 @@ use Rattle.spelling.proofs.Exact.{spells-writable, Written, print-writt
 use Rattle.spelling.proofs.Alike.{Stop, stop}
 use Rattle.spelling.proofs.Split.{at-once}
 
--- ---- by 2 to 8
+-- ---- by 2 or a later question
 
 run-read : (u : List ℕ) → reads u .question ≡ 0 → run-tokens u start (tokens u) .question ≡ 0
 unfolding reads built denied
@@ -79,18 +79,20 @@ two-asked : (s : List ℕ) (st : State) (k : Token) → asked s st k ≡ 2 → k
 unfolding questions first-no token-formed
 two-asked s st k e =
     eqb-true (k .kind) 1
-    (go (eqb (k .kind) 1) (grammar-allows s st k) (name-bound s st k) (guarded s st k) (ranged s st k) (new-label s st k) (within s st k) e)
+    (go (eqb (k .kind) 1) (grammar-allows s st k) (name-bound s st k) (guarded s st k) (ranged s st k) (share-ranged s st k) (new-label s st k) (within s st k) (shares-add s st k) e)
   where
-    go : (a b c d e f g : Bool)
-        → first-no ((2, not a) ∷ (3, b) ∷ (4, c) ∷ (5, d) ∷ (6, e) ∷ (7, f) ∷ (8, g) ∷ []) ≡ 2 → a ≡ true
-    go true b c d e f g h = refl
-    go false false c d e f g h = absurd (omega arith)
-    go false true false d e f g h = absurd (omega arith)
-    go false true true false e f g h = absurd (omega arith)
-    go false true true true false f g h = absurd (omega arith)
-    go false true true true true false g h = absurd (omega arith)
-    go false true true true true true false h = absurd (omega arith)
-    go false true true true true true true h = absurd (omega arith)
+    go : (a b c d e x f g y : Bool)
+        → first-no ((2, not a) ∷ (3, b) ∷ (4, c) ∷ (5, d) ∷ (6, e) ∷ (19, x) ∷ (7, f) ∷ (8, g) ∷ (20, y) ∷ []) ≡ 2 → a ≡ true
+    go true b c d e x f g y h = refl
+    go false false c d e x f g y h = absurd (omega arith)
+    go false true false d e x f g y h = absurd (omega arith)
+    go false true true false e x f g y h = absurd (omega arith)
+    go false true true true false x f g y h = absurd (omega arith)
+    go false true true true true false f g y h = absurd (omega arith)
+    go false true true true true true false g y h = absurd (omega arith)
+    go false true true true true true true false y h = absurd (omega arith)
+    go false true true true true true true true false h = absurd (omega arith)
+    go false true true true true true true true true h = absurd (omega arith)
 
 pub two-means : TwoMeans
 unfolding refused denied

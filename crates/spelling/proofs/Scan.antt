@@ -308,7 +308,7 @@ listed-formed : (es : List (ℕ × String)) (k : ℕ) (w : List ℕ) → Each (�
 listed-formed es k w a l e = eqb-false k 1 (each-listed (λ k w. eqb k 1 ≡ false) es k w a l) (ap sign-in e)
 
 pub spells-formed : {t : Tok} {w : List ℕ} {more : ℕ → Bool} → Spells t w more → t ≡ sign 1 → ⊥
-spells-formed (a-sign {k} {w} l) e = listed-formed sign-tokens k w (refl, (refl, (refl, (refl, (refl, (refl, (refl, (refl, (refl, (refl, (refl, tt))))))))))) l e
+spells-formed (a-sign {k} {w} l) e = listed-formed sign-tokens k w (refl, (refl, (refl, (refl, (refl, (refl, (refl, (refl, (refl, (refl, (refl, (refl, tt)))))))))))) l e
 spells-formed (a-dot {k} {w} l) e = listed-formed dot-tokens k w (refl, (refl, tt)) l e
 spells-formed (a-word {k} {w} l) e = listed-formed word-tokens k w (refl, (refl, (refl, (refl, (refl, tt))))) l e
 spells-formed (a-name h) e = omega (arith, ap tag e)

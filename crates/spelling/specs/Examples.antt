@@ -2,6 +2,7 @@
 -- Assumes nothing.
 use mathlib.Core.Bool.{true, false}
 use mathlib.Core.List.{List, [], _∷_, _++_}
+use mathlib.Core.Option.{none, some}
 use Prim.Native.Nat.{ℕ}
 use Prim.Native.String.{String}
 use Rattle.table.specs.Ascii.{ascii}
@@ -22,8 +23,13 @@ abbrev pub P-type : Ty
 P-type =
     loop (name "X")
     (choice sending
-    (also (name "Ask") (record { kind = int; low = plus 0; high = plus 100 } ∷ []) (choice receiving (last (name "Ok") [] (var (name "X"))))
-    (last (name "Quit") [] stop)))
+    (also (name "Ask") (record { kind = int; low = plus 0; high = plus 100 } ∷ []) none
+    (choice receiving (last (name "Ok") [] none (var (name "X"))))
+    (last (name "Quit") [] none stop)))
+
+-- two branches with shares
+abbrev pub two-shares : Ty
+two-shares = choice sending (also (name "A") [] (some (plus 400)) stop (last (name "B") [] (some (plus 600)) stop))
 
 abbrev Nothing : List ℕ → Type 0
 Nothing s = (ts : List Tok) → Spelt s ts → ⊥
@@ -43,6 +49,8 @@ pub record Examples : Type 0 where
   -- no minus before 0, no leading zero
   pub minus-zero : Nothing (ascii "-0")
   pub leading-zero : Nothing (ascii "01")
+  -- a share's @ is a sign: blanks may stand around it
+  pub share : Spelt (ascii "+{!A() @ 400.end,!B()@ 600.end}") (print-text two-shares)
   -- dots, and words, take the longest run
   pub three-dots : Nothing (ascii "...")
   pub other-word : Nothing (ascii "ending")

@@ -1,4 +1,5 @@
--- What a refusal at a token implies, in tokens that stand in the text (document 01, questions 2 to 8).
+-- What a refusal at a token implies, in tokens that stand in the text (document 01, questions 2 to 8; document 02, request 4, questions
+-- 19 and 20).
 -- Assumes nothing.
 use mathlib.Core.Path.{_≡_}
 use mathlib.Core.List.{List, _∷_, _++_, map}
@@ -26,7 +27,7 @@ upto-before {s} a ts = map (tok-of s) (a .before) ++ ts
 abbrev pub upto-here : {s : List ℕ} {p : ℕ} → At s p → List Tok → List Tok
 upto-here {s} a ts = upto-before a (tok-of s (a .here) ∷ ts)
 
--- A refusal by 2 to 8: there is a token at the place, and no text that is read begins with the tokens up to and with it.
+-- A refusal by 2 or a later question: there is a token at the place, and no text that is read begins with the tokens up to and with it.
 abbrev pub RefusedMeans : Type 0
 RefusedMeans =
     (s : List ℕ) (q p : ℕ) → 2 ≤ q → reads s ≡ refused q p

@@ -4,13 +4,14 @@
 use mathlib.Core.Path.{_≡_}
 use mathlib.Core.Bool.{true, cond}
 use mathlib.Core.List.{List, [], _∷_, _++_}
+use mathlib.Core.Option.{none, some}
 use Prim.Native.Nat.{ℕ, suc}
 use Prim.Native.String.{String}
 use lib.Dec.{eqb}
 use Rattle.table.specs.Table.{legal-label}
 use Rattle.table.specs.View.{label-of}
 use Rattle.text.specs.Token.{word-of}
-use Rattle.text.specs.Grammar.{SyntaxField, Ty, stop, var, loop, choice, Br, last, also, Tok, word, number, sign, print-text}
+use Rattle.text.specs.Grammar.{SyntaxField, Share, Ty, stop, var, loop, choice, Br, last, also, Tok, word, number, sign, print-text}
 use Rattle.table.specs.Ascii.{ascii, letters, digits}
 use Rattle.spelling.specs.Spelling.{sign-tokens, dot-tokens, word-tokens}
 
@@ -45,6 +46,10 @@ module _ (P : Tok → Type 0) where
   OfFields [] = Unit {0}
   OfFields (f ∷ fs) = P (number (f .low)) × (P (number (f .high)) × OfFields fs)
 
+  abbrev pub OfShare : Share → Type 0
+  OfShare none = Unit {0}
+  OfShare (some n) = P (number n)
+
   abbrev mutual
     pub Of : Ty → Type 0
     Of stop = Unit {0}
@@ -53,8 +58,8 @@ module _ (P : Tok → Type 0) where
     Of (choice w bs) = OfBr bs
 
     pub OfBr : Br → Type 0
-    OfBr (last l fs t) = P (word l) × (OfFields fs × Of t)
-    OfBr (also l fs t bs) = P (word l) × (OfFields fs × (Of t × OfBr bs))
+    OfBr (last l fs sh t) = P (word l) × (OfFields fs × (OfShare sh × Of t))
+    OfBr (also l fs sh t bs) = P (word l) × (OfFields fs × (OfShare sh × (Of t × OfBr bs)))
 
 abbrev pub Spellable : Ty → Type 0
 Spellable t = Of Writable t

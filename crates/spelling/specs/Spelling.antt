@@ -37,7 +37,7 @@ abbrev own : String → ℕ × String
 own x = (K.of x, x)
 
 abbrev pub sign-tokens : List (ℕ × String)
-sign-tokens = map own ("+" ∷ "&" ∷ "{" ∷ "}" ∷ "," ∷ "!" ∷ "?" ∷ "(" ∷ ")" ∷ "[" ∷ "]" ∷ [])
+sign-tokens = map own ("+" ∷ "&" ∷ "{" ∷ "}" ∷ "," ∷ "!" ∷ "?" ∷ "(" ∷ ")" ∷ "[" ∷ "]" ∷ "@" ∷ [])
 
 abbrev pub dot-tokens : List (ℕ × String)
 dot-tokens = own "." ∷ (K.dots, "..") ∷ []

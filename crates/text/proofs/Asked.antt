@@ -3,7 +3,7 @@ use mathlib.Core.Bool.{Bool, true, not}
 use mathlib.Core.List.{List}
 use Prim.Native.Nat.{ℕ}
 use Rattle.table.specs.Lists.{first-no}
-use Rattle.text.specs.Grammar.{Br, everywhere-br, bare, fields-in, fields-legal, label-new}
+use Rattle.text.specs.Grammar.{Br, everywhere-br, bare, fields-in, fields-legal, label-new, share-in, share-legal}
 use Rattle.text.specs.Reading.{State, questions}
 use Rattle.text.specs.declared.token.Token.{Token}
 
@@ -18,3 +18,6 @@ branches-legal-br bs = everywhere-br (λ x u. true) (λ bs. fields-legal (fields
 
 abbrev pub labels-new-br : Br → Bool
 labels-new-br bs = everywhere-br (λ x u. true) label-new bs
+
+abbrev pub shares-legal-br : Br → Bool
+shares-legal-br bs = everywhere-br (λ x u. true) (λ bs. share-legal (share-in bs)) bs

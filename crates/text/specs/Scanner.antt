@@ -23,7 +23,7 @@ between low high x = leb low x && leb x high
 
 -- each is a token by itself
 abbrev pub signs : List ℕ
-signs = ascii "!&()+,?[]{}"
+signs = ascii "!&()+,?@[]{}"
 
 -- a space or a line feed; a digit; a dot
 abbrev pub is-space : ℕ → Bool

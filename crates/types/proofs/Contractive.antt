@@ -165,11 +165,11 @@ mutual
   fault (choice w bs) e = let f = fault-br bs e in (suc (f .0), in-branch (f .4) (f .5))
 
   fault-br : (bs : Br) → recs-guarded-br bs ≡ false → FaultyBr bs
-  fault-br (last l fs t) e = let f = fault t e in (f .0, l, fs, t, only, f .1)
-  fault-br (also l fs t bs) e = go (recs-guarded t) refl e (λ e. fault t e) (λ e. fault-br bs e)
+  fault-br (last l fs sh t) e = let f = fault t e in (f .0, l, fs, t, only, f .1)
+  fault-br (also l fs sh t bs) e = go (recs-guarded t) refl e (λ e. fault t e) (λ e. fault-br bs e)
     where
       go : (b : Bool) → recs-guarded t ≡ b → (b && recs-guarded-br bs) ≡ false → (recs-guarded t ≡ false → Faulty t)
-          → (recs-guarded-br bs ≡ false → FaultyBr bs) → FaultyBr (also l fs t bs)
+          → (recs-guarded-br bs ≡ false → FaultyBr bs) → FaultyBr (also l fs sh t bs)
       go true b e i j = let f = j e in (f .0, f .1, f .2, f .3, later (f .4), f .5)
       go false b e i j = let f = i b in (f .0, l, fs, t, first, f .1)
 

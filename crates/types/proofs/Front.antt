@@ -109,8 +109,8 @@ mutual
 
   guarded-put-br : (bs : Br) (x : ℕ) (u : Ty) → Closed u → recs-guarded u ≡ true → recs-guarded-br bs ≡ true
       → recs-guarded-br (substitute-br bs x u) ≡ true
-  guarded-put-br (last l fs t) x u c h g = guarded-put t x u c h g
-  guarded-put-br (also l fs t bs) x u c h g =
+  guarded-put-br (last l fs sh t) x u c h g = guarded-put t x u c h g
+  guarded-put-br (also l fs sh t bs) x u c h g =
       let w = both (recs-guarded t) (recs-guarded-br bs) g in
       join (guarded-put t x u c h (w .0)) (guarded-put-br bs x u c h (w .1))
 

@@ -5,7 +5,7 @@ use mathlib.Core.List.{_∷_, _++_}
 use Prim.Native.Nat.{ℕ, suc, _+_}
 use lib.ListN.{length}
 use borrow.Author.Tests.{ne-eqb}
-use Rattle.text.specs.Grammar.{Ty, Br, way-sort, sorts, sorts-br, Scope, nothing-bound, bind, first-state, branch-for, branches, branches-br, table-of}
+use Rattle.text.specs.Grammar.{Ty, Br, way-sort, sorts, sorts-br, Scope, nothing-bound, bind, first-state, branch-for, branches, branches-br, share-of, shares, shares-br, table-of}
 use Rattle.text.specs.Filled.{Reading, filled}
 use Rattle.text.proofs.Exactly.{read-filled}
 use Rattle.types.specs.Straight.{Straight, at-end, at-name, before-name, in-rec, in-choice, StraightBr, in-last, in-also, StraightSame}
@@ -41,14 +41,26 @@ mutual
 
   same-branches-br : {bs cs : Br} → StraightBr bs cs → (e : Scope) (o n : ℕ) → branches-br cs e o n ≡ branches-br bs e o n
   same-branches-br (in-last {l} {fs} s) e o n = ap₂ (λ k bs. branch-for o l fs k ∷ bs) (same-first s e n) (same-branches s e n)
-  same-branches-br (in-also {l} {fs} {t} {bs = bs} {cs} s r) e o n =
+  same-branches-br (in-also {l} {fs} {t = t} {bs = bs} {cs} s r) e o n =
       ap₂ (λ k bs. branch-for o l fs k ∷ bs) (same-first s e n)
       (ap₂ _++_ (same-branches s e n)
       (ap (λ ss. branches-br cs e o (n + length ss)) (same-sorts s) ∙ same-branches-br r e o (n + length (sorts t))))
 
+mutual
+  same-shares : {t u : Ty} → Straight t u → shares u ≡ shares t
+  same-shares at-end = refl
+  same-shares at-name = refl
+  same-shares (before-name n s) = same-shares s
+  same-shares (in-rec s) = same-shares s
+  same-shares (in-choice s) = same-shares-br s
+
+  same-shares-br : {bs cs : Br} → StraightBr bs cs → shares-br cs ≡ shares-br bs
+  same-shares-br (in-last {sh = sh} s) = ap (λ r. share-of sh ∷ r) (same-shares s)
+  same-shares-br (in-also {sh = sh} s r) = ap₂ (λ a r. share-of sh ∷ (a ++ r)) (same-shares s) (same-shares-br r)
+
 same-table : {t u : Ty} → Straight t u → table-of u ≡ table-of t
 unfolding table-of
-same-table s = ap₂ (λ ss bs. record { sorts = ss; branches = bs }) (same-sorts s) (same-branches s nothing-bound 0)
+same-table s = rw (same-sorts s, same-branches s nothing-bound 0, same-shares s)
 
 pub straight-same : StraightSame
 straight-same s v h k t u w y d =

@@ -4,7 +4,7 @@
 use mathlib.Core.Path.{_≡_}
 use mathlib.Core.List.{List}
 use Prim.Native.Nat.{ℕ}
-use Rattle.text.specs.Grammar.{Way, SyntaxField, Ty, stop, var, loop, choice, Br, last, also, Writes}
+use Rattle.text.specs.Grammar.{Way, SyntaxField, Share, Ty, stop, var, loop, choice, Br, last, also, Writes}
 use Rattle.text.specs.Reading.{reads}
 
 mutual
@@ -17,9 +17,9 @@ mutual
     in-choice : {w : Way} {bs cs : Br} → StraightBr bs cs → Straight (choice w bs) (choice w cs)
 
   pub data StraightBr : Br → Br → Type 0 where
-    in-last : {l : ℕ} {fs : List SyntaxField} {t u : Ty} → Straight t u → StraightBr (last l fs t) (last l fs u)
-    in-also : {l : ℕ} {fs : List SyntaxField} {t u : Ty} {bs cs : Br} → Straight t u → StraightBr bs cs
-        → StraightBr (also l fs t bs) (also l fs u cs)
+    in-last : {l : ℕ} {fs : List SyntaxField} {sh : Share} {t u : Ty} → Straight t u → StraightBr (last l fs sh t) (last l fs sh u)
+    in-also : {l : ℕ} {fs : List SyntaxField} {sh : Share} {t u : Ty} {bs cs : Br} → Straight t u → StraightBr bs cs
+        → StraightBr (also l fs sh t bs) (also l fs sh u cs)
 
 abbrev pub StraightSame : Type 0
 StraightSame =
