@@ -11,7 +11,7 @@ use Rattle.table.specs.Lists.{matched}
 use Rattle.table.specs.Table.{Field, Table, sound}
 use Rattle.table.specs.View.{Words, label-of, view}
 use Rattle.message.specs.Message.{Value, Message, read, well-formed, front, broken, has-label}
-use Rattle.message.specs.Judge.{same-kind, in-range, allows, allowed, forbidden, judge}
+use Rattle.message.specs.Judge.{same-kind, in-range, carries, allows, selected, allowed, forbidden, judge}
 use Rattle.message.specs.Make.{branch, branch-message, making}
 
 -- ---- what a judgement says, over a sound table
@@ -49,6 +49,17 @@ pub record Judged (t : Table) (i : ℕ) (m : Message) : Type 0 where
 
 abbrev pub JudgedExactly : Type 0
 JudgedExactly = (t : Table) → sound t ≡ true → (i : ℕ) (m : Message) → Judged t i m
+
+-- the branch that a message chooses is one of the state's, and leads where the message leads; where none is selected, it leads nowhere
+pub record Selected (t : Table) (i : ℕ) (m : Message) (k : ℕ) : Type 0 where
+  pub there : k < length (t .branches)
+  pub carried : carries i m (branch t k) ≡ true
+  pub leads : allows t i m ≡ some (branch t k .target)
+
+abbrev pub SelectedExactly : Type 0
+SelectedExactly =
+    (t : Table) (i : ℕ) (m : Message)
+    → ((k : ℕ) → selected t i m ≡ some k → Selected t i m k) × ((selected t i m ≡ none) ↔ (allows t i m ≡ none))
 
 -- ---- the label where it stands
 

@@ -1,6 +1,6 @@
 -- What a branch of a sound table holds is well formed: its label is legal, and a number within its range is one of the kind.
 -- Assumes nothing.
-use mathlib.Core.Path.{_≡_, sym, ap, ap₂, _∙_}
+use mathlib.Core.Path.{_≡_, sym, ap, ap₂, subst, _∙_}
 use mathlib.Core.Bool.{true, not, _&&_, false≢true}
 use mathlib.Core.List.{List}
 use Prim.Native.Nat.{ℕ, zero, suc, _+_, _*_, _≤_, _<_}
@@ -9,21 +9,21 @@ use native.Mathlib.Omega.{arith}
 use lib.ListN.{length, getD, take}
 use lib.Seq.{take-take, take-length}
 use lib.Dec.{leb, ltb, eqb}
-use borrow.Author.Tests.{ltb-true, lt-ltb, leb-true, le-leb}
+use borrow.Author.Tests.{ltb-true, lt-ltb, leb-true, le-leb, eqb-true}
 use Rattle.table.specs.Table.{legal-label, legal-field, within-kind, origin, is-party, speaker}
-use Rattle.table.specs.View.{branches-of, owner-at, target-at, count-at, word-at, kind-at, low-at, high-at, sort-of, view, sound-of}
+use Rattle.table.specs.View.{branches-of, owner-at, count-at, word-at, kind-at, low-at, high-at, sort-of, view, sound-of}
 use Rattle.table.specs.Scans.{legal-at}
 use Rattle.table.specs.Lists.{first-no}
 use Rattle.table.proofs.Lists.{both, join}
 use Rattle.table.proofs.Facts.{Facts, sound-facts}
 use Rattle.message.specs.Message.{number-at, count-of, announced, read, legal-value, front, refusal, has-label}
-use Rattle.message.specs.Judge.{judge}
+use Rattle.message.specs.Judge.{selected, judge}
 use Rattle.message.proofs.Reading.{value-at, Whole, parts-whole, cut-values}
 use Rattle.message.proofs.Label.{label-in-place}
 use Rattle.table.specs.declared.Party.{Party}
-use Rattle.monitor.specs.Leaves.{branch-named, First, Held, Straight, Leading}
+use Rattle.monitor.specs.Leaves.{branch-named, First, inside, Held, ByBranch, Straight, Leading}
 use Rattle.monitor.proofs.Asking.{all-well}
-use Rattle.monitor.proofs.ByPlaces.{allowed-here}
+use Rattle.monitor.proofs.ByPlaces.{allowed-here, chosen-here}
 use Rattle.monitor.proofs.Waiting.{all-there, first-formed}
 
 -- kinds 1 and 2
@@ -90,23 +90,32 @@ module _ (t : List ℕ) (sound : sound-of t ≡ true) (bytes : List ℕ) (nine :
       ap₂ (λ a b. record { label = a; values = b }) (take-take 8 n bytes (omega (arith, h .size)))
       (cut-values bytes n whole-there (omega (arith, h .counted, h .size)) (h .there))
 
-  pub straight : (room : ℕ) → n ≤ room → Leading t i bytes room n (target-at t r)
-  unfolding judge view
+  pub straight : (room : ℕ) → n ≤ room → Leading t i bytes room n r
+  unfolding judge selected view branch-named
   straight room fits = record {
     nine = omega (arith, h .size);
     first = all-there bytes front-there (omega (arith, announced-there, h .there)) ∙ announced-there;
     holds = fits;
-    judged = ap (judge (view t) i) read-there
-        ∙ allowed-here t (branches-of t) i bytes whole-there r first l (h .counted) (h .carried .kinds) (count-at t r)
-        (record { within = le-refl (count-at t r); before = λ k g. ap not (h .carried .numbers k g); there = λ g. absurd (omega arith) }) (le-refl (count-at t r));
+    by-branch = record {
+      there = l;
+      owned = eqb-true (owner-at t r) i (both (eqb (owner-at t r) i) (has-label bytes (word-at t r)) (first .there l) .0);
+      judged = ap (judge (view t) i) read-there
+          ∙ allowed-here t (branches-of t) i bytes whole-there r first l (h .counted) (h .carried .kinds) (count-at t r) all-inside (le-refl (count-at t r));
+      selected-one = ap (selected (view t) i) read-there
+          ∙ chosen-here t (branches-of t) i bytes whole-there r first l (h .counted) (h .carried .kinds) (count-at t r) all-inside (le-refl (count-at t r));
+    };
   }
+    where
+      all-inside : First (λ f. not (inside t bytes (4 * r + f) f)) (count-at t r) (count-at t r)
+      all-inside =
+          record { within = le-refl (count-at t r); before = λ k g. ap not (h .carried .numbers k g); there = λ g. absurd (omega arith) }
 
 -- where nothing stands behind it, and it is its side's turn
 pub straight-alone : (t : List ℕ) (i : ℕ) (message : List ℕ) (room n r : ℕ) → Leading t i message room n r → n ≡ length message
     → (sort : ℕ) (side : Party) → is-party side (speaker (sort-of sort)) ≡ true → Straight t i sort side message room r
 straight-alone t i message room n r x e sort side turn = record {
   asked = all-well (sort-of sort) side message room turn formed (omega (arith, x .holds));
-  judged = ap (λ m. judge (view t) i (read m)) (sym all-taken) ∙ x .judged;
+  by-branch = subst (λ m. ByBranch t i m r) all-taken (x .by-branch);
 }
   where
     all-taken : take n message ≡ message

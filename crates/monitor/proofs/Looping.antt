@@ -3,31 +3,39 @@
 -- Assumes nothing.
 use mathlib.Core.Path.{_≡_, refl, sym, ap, subst, _∙_}
 use mathlib.Core.Logic.{⊎-elim}
-use mathlib.Core.Bool.{true, false}
+use mathlib.Core.Bool.{true, false, cond}
 use mathlib.Core.List.{List, _++_, append-nil}
 use mathlib.Core.Option.{Option, none, some}
 use Prim.Native.Nat.{ℕ, zero, suc, _+_, _-_, _≤_, _<_}
 use native.Mathlib.Omega.{arith}
 use lib.ListN.{length, take, drop}
+use borrow.Author.Tests.{ne-eqb}
 use Rattle.table.specs.Lists.{first-no}
-use Rattle.table.specs.View.{Words, sort-at}
+use Rattle.table.specs.View.{Words, sort-at, target-at, view}
 use Rattle.table.specs.declared.Party.{Party}
 use Rattle.table.specs.declared.Party.the-variants.{Device, Host}
 use Rattle.table.proofs.Lists.{never}
+use Rattle.message.specs.Message.{read}
+use Rattle.message.specs.Judge.{selected}
 use Rattle.monitor.specs.declared.State.{State}
 use Rattle.monitor.specs.declared.Stepped.{Stepped}
 use Rattle.monitor.specs.declared.straight.Ahead.{Ahead}
 use Rattle.monitor.specs.Step.{is-running, told, Told, refused, blamed, forwarded, Outcome, refusing, blaming, forwarding, stepping}
 use Rattle.monitor.specs.Step.{outcome}
 use Rattle.monitor.specs.Due.{of-side, awaited, first-length}
+use Rattle.monitor.specs.Due as Due
 use Rattle.monitor.specs.Batch.{Lane, used-by, written-by, Taken, taken, taking, Batch, latest, device-took, host-took, turn-of}
 use Rattle.monitor.specs.Batch.{one-turn, go-on, turns, batch-questions, begun}
 use Rattle.monitor.specs.Conversation.{is-forwarded}
-use Rattle.monitor.specs.Turns.{Heard, LaneIn, Within, is-last-forwarded, Led, no-turn, a-turn, moved-to, PassedOn}
-use Rattle.monitor.proofs.Asking.{zero-or, entered, Way, refuses, forwards, blames, way}
+use Rattle.monitor.specs.Counts.{Counts, counts-sound, raised, raised-by, raised-at, counted, first-left, awaited-message, turn-message, count-on}
+use Rattle.monitor.specs.Counts.{counted-turns, counted-batch}
+use Rattle.monitor.specs.Leaves.{Rising}
+use Rattle.monitor.specs.Turns.{Heard, LaneIn, Within, is-last-forwarded, Led, no-turn, a-turn, answer-counted, counted-one-turn, moved-to, PassedOn}
+use Rattle.monitor.proofs.Asking.{nine-by, zero-or, entered, Way, refuses, forwards, blames, way}
 use Rattle.monitor.proofs.Waiting.{first-cut}
 use Rattle.monitor.proofs.Batching.{devices-turn, hosts-turn, takes-none, takes-one, now-due, used-in, written-in, left, turn-is}
-use Rattle.monitor.proofs.Batching.{turn-by, stays, on-over, begun-within}
+use Rattle.monitor.proofs.Batching.{turn-by, stays, on-over, begun-within, kept-out, let-in, sound-parts}
+use Rattle.monitor.proofs.Raising.{raised-at-is, raised-at-rising}
 use Rattle.monitor.proofs.Passing.{whole-rest, none-past}
 
 -- ---- parts of slices
@@ -55,6 +63,12 @@ module _ (t : Words) (s : State) (side : Party) (bytes : List ℕ) (l : Lane) (a
 
     the-message : take n (take (length bytes - l .used) rest) ≡ take (first-length rest) rest
     the-message = ap (λ r. take n r) (whole-rest (l .used) bytes) ∙ ap (λ k. take k rest) first-is
+
+    -- and as it is counted
+    pub got-counted : (v : Told) (c : Counts)
+        → counted t s (take n (take (length bytes - l .used) rest)) v c ≡ counted t s (first-left bytes l) v c
+    unfolding first-left
+    got-counted v c = ap (λ m. counted t s m v c) the-message
 
     pub got-due : Heard t s side (take n (take (length bytes - l .used) rest))
     got-due = subst (Heard t s side) (sym the-message) (now-due t s side bytes l a i some-there)
@@ -171,13 +185,13 @@ module _ (t : Words) (device host : List ℕ) where
 
   -- ---- a message that goes straight
 
-  module _ (b : Batch) (o : On b) (n : sort-at t (b .state .position) ≡ 0 → ⊥) (r : Ahead) (after : List ℕ) (h : r .target < 32) where
+  module _ (b : Batch) (o : On b) (n : sort-at t (b .state .position) ≡ 0 → ⊥) (r : Ahead) (after : List ℕ) (h : r .branch < 128) where
     pub device-straight : sort-at t (b .state .position) ≡ 1 → PassedOn t (b .state .position) device (b .device) after r
         → one-turn t device host b
         ≡ (
           some forwarded,
           record {
-            state = moved-to (r .target) (b .state);
+            state = moved-to (target-at t (r .branch)) (b .state);
             device = record { used = b .device .used + r .length; written = b .device .written + r .length; output = after };
             host = b .host;
             last = some forwarded;
@@ -193,7 +207,7 @@ module _ (t : Words) (device host : List ℕ) where
         ≡ (
           some forwarded,
           record {
-            state = moved-to (r .target) (b .state);
+            state = moved-to (target-at t (r .branch)) (b .state);
             device = b .device;
             host = record { used = b .host .used + r .length; written = b .host .written + r .length; output = after };
             last = some forwarded;
@@ -204,49 +218,162 @@ module _ (t : Words) (device host : List ℕ) where
         let a = hosts-turn t (b .state) (o .within .sound) (o .running) n d in
         turn-is t device host b (of-side Host) a ∙ ap (λ x. host-took x b) (p .straight h (b .state) Host refl a)
 
+    -- the counts rise by its branch
+    raised-first : (position : ℕ) (message : List ℕ) (c : Counts) → selected (view t) position (read message) ≡ some (r .branch)
+        → raised-at t position message c ≡ raised c position (r .branch)
+    unfolding raised-by
+    raised-first position message c e = raised-at-is t position message c (some (r .branch)) e
+
+    pub device-raised : sort-at t (b .state .position) ≡ 1 → PassedOn t (b .state .position) device (b .device) after r → (c : Counts)
+        → raised-at t (b .state .position) (turn-message t device host b) c ≡ raised c (b .state .position) (r .branch)
+    unfolding turn-message awaited-message
+    device-raised d p c =
+        let a = devices-turn t (b .state) (o .within .sound) (o .running) n d in
+        ap (λ x. raised-at t (b .state .position) (awaited-message x device host b) c) a
+        ∙ raised-first (b .state .position) (first-left device (b .device)) c (p .picked h .1)
+
+    pub host-raised : (sort-at t (b .state .position) ≡ 1 → ⊥) → PassedOn t (b .state .position) host (b .host) after r → (c : Counts)
+        → raised-at t (b .state .position) (turn-message t device host b) c ≡ raised c (b .state .position) (r .branch)
+    unfolding turn-message awaited-message
+    host-raised d p c =
+        let a = hosts-turn t (b .state) (o .within .sound) (o .running) n d in
+        ap (λ x. raised-at t (b .state .position) (awaited-message x device host b) c) a
+        ∙ raised-first (b .state .position) (first-left host (b .host)) c (p .picked h .1)
+
+  -- ---- one turn and its counts, as the program has them
+
+  module _ (b : Batch) (c : Counts) where
+    pub ended-counted : (q : ℕ) → awaited t (b .state) ≡ Due.refused q
+        → _≡_ {A = (Option Told × Batch) × Counts} ((none, b), c) (counted-one-turn t device host b c)
+    unfolding turn-of
+    ended-counted q a = rw (turn-is t device host b (Due.refused q) a)
+
+    pub device-counted : awaited t (b .state) ≡ of-side Device → (x : Taken) → x ≡ taking t (b .state) Device device (b .device)
+        → (r : Option Told × Batch) → r ≡ device-took x b
+        → (d : Counts) → d ≡ answer-counted t (b .state) (first-left device (b .device)) (x .answer) c → (r, d) ≡ counted-one-turn t device host b c
+    unfolding turn-of device-took turn-message awaited-message
+    device-counted a x h r e d f = rw (turn-is t device host b (of-side Device) a, a, ← h, e, f)
+
+    pub host-counted : awaited t (b .state) ≡ of-side Host → (x : Taken) → x ≡ taking t (b .state) Host host (b .host)
+        → (r : Option Told × Batch) → r ≡ host-took x b
+        → (d : Counts) → d ≡ answer-counted t (b .state) (first-left host (b .host)) (x .answer) c → (r, d) ≡ counted-one-turn t device host b c
+    unfolding turn-of host-took turn-message awaited-message
+    host-counted a x h r e d f = rw (turn-is t device host b (of-side Host) a, a, ← h, e, f)
+
   -- ---- as far as they lead
 
-  pub led-further : (a b d : Batch) → Led t device host a b → Led t device host b d → Led t device host a d
-  led-further a b d l no-turn = l
-  led-further a b d l (a-turn {c} m e) = a-turn (led-further a b c l m) e
+  pub led-further : {a b d : Batch} {c x y : Counts} → Led t device host a c b x → Led t device host b x d y → Led t device host a c d y
+  led-further l no-turn = l
+  led-further l (a-turn m e) = a-turn (led-further l m) e
 
-  module _ (start : Batch) (o : On start) where
-    pub led-on : (b : Batch) → Led t device host start b → On b
-    led-on b no-turn = o
-    led-on b (a-turn {c} l e) = turn-on c b (led-on c l) e
+  -- after a turn that does not forward, and after one that does
+  abbrev up : Batch → Counts → Counts
+  up b c = raised-at t (b .state .position) (turn-message t device host b) c
 
-    pub led-less : (b : Batch) → Led t device host start b → ahead b ≤ ahead start
-    led-less b no-turn = omega arith
-    led-less b (a-turn {c} l e) = omega (arith, led-less c l, turn-less c b (led-on c l) e)
+  count-over : (f : Batch → Counts → Counts) (r : Option Told × Batch) (u c : Counts) → is-last-forwarded (r .0) ≡ false → count-on f r u c ≡ c
+  unfolding count-on is-last-forwarded is-forwarded
+  count-over f (none, b) u c h = refl
+  count-over f (some (refused q), b) u c h = refl
+  count-over f (some (blamed p r x), b) u c h = refl
+  count-over f (some forwarded, b) u c h = never refl h
+
+  answer-over : (s : State) (message : List ℕ) (v : Option Told) (c : Counts) → is-last-forwarded v ≡ false → answer-counted t s message v c ≡ c
+  unfolding counted is-last-forwarded is-forwarded
+  answer-over s message none c h = refl
+  answer-over s message (some (refused q)) c h = refl
+  answer-over s message (some (blamed p r x)) c h = refl
+  answer-over s message (some forwarded) c h = never refl h
+
+  answer-up : (s : State) (message : List ℕ) (v : Option Told) (c : Counts) → is-last-forwarded v ≡ true
+      → answer-counted t s message v c ≡ raised-at t (s .position) message c
+  unfolding counted is-last-forwarded is-forwarded
+  answer-up s message none c h = never h refl
+  answer-up s message (some (refused q)) c h = never h refl
+  answer-up s message (some (blamed p r x)) c h = never h refl
+  answer-up s message (some forwarded) c h = refl
+
+  module _ (start : Batch) (o : On start) (c₀ : Counts) where
+    pub led-on : {b : Batch} {c : Counts} → Led t device host start c₀ b c → On b
+    led-on no-turn = o
+    led-on (a-turn {x} {y} l e) = turn-on x y (led-on l) e
+
+    pub led-less : {b : Batch} {c : Counts} → Led t device host start c₀ b c → ahead b ≤ ahead start
+    led-less no-turn = omega arith
+    led-less (a-turn {x} {y} l e) = omega (arith, led-less l, turn-less x y (led-on l) e)
+
+    -- the counts can rise
+    pub led-rising : Rising t c₀ → {b : Batch} {c : Counts} → Led t device host start c₀ b c → Rising t c
+    led-rising h no-turn = h
+    led-rising h (a-turn {x} {y} {d} l e) =
+        raised-at-rising t (x .state .position) (turn-message t device host x) d (sound-parts t (x .state .position) (led-on l .within .sound) .0) (led-rising h l)
 
     abbrev asked-for : Batch
     asked-for = turns (suc (length device + length host)) t device host start
 
-    -- what is left to do from a batch on gives what is asked for
-    record Going (b : Batch) : Type 0 where
+    abbrev counts-for : Counts
+    counts-for = counted-turns (suc (length device + length host)) t device host start c₀
+
+    -- what is left to do from a batch and its counts on gives what is asked for
+    record Going (b : Batch) (c : Counts) : Type 0 where
       more : ℕ
       enough : ahead b ≤ more
       same : turns (suc more) t device host b ≡ asked-for
+      counts : counted-turns (suc more) t device host b c ≡ counts-for
 
-    again : (b d : Batch) → On b → one-turn t device host b ≡ (some forwarded, d) → (n : ℕ) → ahead b ≤ n
-        → turns (suc n) t device host b ≡ asked-for → Going d
-    unfolding turns go-on
-    again b d o e zero h s = absurd (omega (arith, h, turn-less b d o e))
-    again b d o e (suc n) h s =
+    again : (b d : Batch) (c : Counts) → On b → one-turn t device host b ≡ (some forwarded, d) → (n : ℕ) → ahead b ≤ n
+        → turns (suc n) t device host b ≡ asked-for → counted-turns (suc n) t device host b c ≡ counts-for → Going d (up b c)
+    unfolding turns go-on counted-turns count-on
+    again b d c o e zero h s k = absurd (omega (arith, h, turn-less b d o e))
+    again b d c o e (suc n) h s k =
         record {
           more = n;
           enough = omega (arith, h, turn-less b d o e);
           same = sym (ap (go-on (turns (suc n) t device host)) e) ∙ s;
+          counts = sym (ap (λ r. count-on (counted-turns (suc n) t device host) r (up b c) c) e) ∙ k;
         }
 
-    going : (b : Batch) → Led t device host start b → Going b
-    going b no-turn = record { more = length device + length host; enough = omega arith; same = refl }
-    going b (a-turn {c} l e) = let g = going c l in again c b (led-on c l) e (g .more) (g .enough) (g .same)
+    going : {b : Batch} {c : Counts} → Led t device host start c₀ b c → Going b c
+    going no-turn = record { more = length device + length host; enough = omega arith; same = refl; counts = refl }
+    going (a-turn {x} {y} {d} l e) = let g = going l in again x y d (led-on l) e (g .more) (g .enough) (g .same) (g .counts)
 
-    -- at a turn that does not forward
-    pub led-over : (b : Batch) → Led t device host start b → (r : Option Told × Batch) → r ≡ one-turn t device host b
-        → is-last-forwarded (r .0) ≡ false → r .1 ≡ asked-for
-    unfolding turns
-    led-over b l r e h =
-        let g = going b l in
-        sym (on-over (turns (g .more) t device host) r h) ∙ ap (go-on (turns (g .more) t device host)) e ∙ g .same
+    -- at a turn that does not forward, and at one that does, as the program has them
+    pub led-over : {b : Batch} {c : Counts} → Led t device host start c₀ b c → (r : Option Told × Batch) (d : Counts)
+        → (r, d) ≡ counted-one-turn t device host b c → is-last-forwarded (r .0) ≡ false → (r .1 ≡ asked-for) × (d ≡ counts-for)
+    unfolding turns counted-turns
+    led-over {b} {c} l r d e h =
+        let g = going l in
+        let q : r ≡ one-turn t device host b = ap (λ x. x .0) e in (
+          sym (on-over (turns (g .more) t device host) r h) ∙ ap (go-on (turns (g .more) t device host)) q ∙ g .same,
+          ap (λ x. x .1) e
+              ∙ answer-over (b .state) (turn-message t device host b) (one-turn t device host b .0) c (subst (λ (x : Option Told × Batch). is-last-forwarded (x .0) ≡ false) q h)
+              ∙ sym (count-over (counted-turns (g .more) t device host) r (up b c) c h)
+              ∙ ap (λ r. count-on (counted-turns (g .more) t device host) r (up b c) c) q ∙ g .counts,
+        )
+
+    pub led-turn : {b : Batch} {c : Counts} → Led t device host start c₀ b c → (r : Option Told × Batch) (d : Counts)
+        → (r, d) ≡ counted-one-turn t device host b c → is-last-forwarded (r .0) ≡ true → Led t device host start c₀ (r .1) d
+    led-turn {b} {c} l r d e h =
+        let q : r ≡ one-turn t device host b = ap (λ x. x .0) e in
+        subst (Led t device host start c₀ (r .1))
+        (sym (ap (λ x. x .1) e
+        ∙ answer-up (b .state) (turn-message t device host b) (one-turn t device host b .0) c (subst (λ (x : Option Told × Batch). is-last-forwarded (x .0) ≡ true) q h)))
+        (a-turn l (turn-forwarded b r q h))
+
+-- ---- the whole
+
+module _ (t : Words) (device host : List ℕ) (s : State) (c : Counts) (to-device to-host : List ℕ) where
+  pub counted-out : (q : ℕ) → q ≡ cond (counts-sound t c) (first-no (batch-questions t s)) 9 → (q ≡ 0 → ⊥)
+      → (begun s to-device to-host (some (refused q)), c) ≡ counted-batch t s c device host to-device to-host
+  unfolding counted-batch
+  counted-out q e n =
+      nine-by (counts-sound t c) e
+      (λ b h. rw (b, ← h, ne-eqb q 0 n, kept-out t device host s to-device to-host q h n)) (λ b h. rw (b, h))
+
+  pub counted-in : counts-sound t c ≡ true → first-no (batch-questions t s) ≡ 0
+      → (
+        turns (suc (length device + length host)) t device host (begun s to-device to-host none),
+        counted-turns (suc (length device + length host)) t device host (begun s to-device to-host none) c,
+      )
+      ≡ counted-batch t s c device host to-device to-host
+  unfolding counted-batch
+  counted-in e h = rw (e, h, let-in t device host s to-device to-host h)

@@ -1,4 +1,4 @@
--- Turns on what a batch left of bytes and outputs, put onto that batch, are its further turns.
+-- Turns on what a batch left of bytes and outputs, put onto that batch, are its further turns, and raise the same counts.
 -- Assumes nothing.
 use mathlib.Core.Path.{_≡_, refl, sym, ap, ap₂, _∙_}
 use mathlib.Core.Bool.{Bool, true, false, cond}
@@ -13,12 +13,13 @@ use Rattle.table.specs.View.{Words}
 use Rattle.table.specs.declared.Party.{Party}
 use Rattle.table.specs.declared.Party.the-variants.{Device, Host}
 use Rattle.monitor.specs.declared.State.{State}
-use Rattle.monitor.specs.Step.{Told, Outcome, stepping}
+use Rattle.monitor.specs.Step.{Told, refused, blamed, forwarded, Outcome, stepping}
 use Rattle.monitor.specs.Due.{Awaited, of-side, awaited, first-length}
 use Rattle.monitor.specs.Due as Due
 use Rattle.monitor.specs.Batch.{Lane, used-by, written-by, Taken, taken, taking, Batch, latest, device-took, host-took, turn-of}
 use Rattle.monitor.specs.Batch.{one-turn, go-on, turns, begun}
 use Rattle.monitor.specs.Batches.{onto-lane, onto}
+use Rattle.monitor.specs.Counts.{Counts, raised-at, first-left, awaited-message, turn-message, count-on, counted-turns}
 use Rattle.monitor.proofs.Batching.{go-on-by, on-again, on-over}
 
 -- ---- one lane after another
@@ -123,6 +124,34 @@ module _ (t : Words) (device host : List ℕ) (f : Batch) (i : f .device .writte
       ap (go-on on) (turn-on b)
       ∙ go-on-by (λ c. go-on on z ≡ onto f c) (turns n t device-left host-left) r (λ h. on-again on z h ∙ turns-on n (r .1)) (λ h. on-over on z h)
 
+  -- the same messages
+  message-on : (b : Batch) → turn-message t device host (onto f b) ≡ turn-message t device-left host-left b
+  unfolding turn-message awaited-message first-left onto onto-lane
+  message-on b = by (awaited t (b .state))
+    where
+      first-on : (bytes : List ℕ) (x y : Lane) → first-left bytes (onto-lane x y) ≡ first-left (drop (x .used) bytes) y
+      first-on bytes x y = ap (λ r. take (first-length r) r) (sym (drop-drop (y .used) (x .used) bytes))
+
+      by : (o : Awaited) → awaited-message o device host (onto f b) ≡ awaited-message o device-left host-left b
+      by (Due.refused q) = refl
+      by (of-side Device) = first-on device (f .device) (b .device)
+      by (of-side Host) = first-on host (f .host) (b .host)
+
+  counts-on : (n : ℕ) (b : Batch) (c : Counts) → counted-turns n t device host (onto f b) c ≡ counted-turns n t device-left host-left b c
+  unfolding counted-turns count-on onto
+  counts-on zero b c = refl
+  counts-on (suc n) b c =
+      ap₂ (λ r m. count-on (counted-turns n t device host) r (raised-at t (b .state .position) m c) c) (turn-on b) (message-on b)
+      ∙ by (one-turn t device-left host-left b) (raised-at t (b .state .position) (turn-message t device-left host-left b) c) (counts-on n)
+    where
+      by : (r : Option Told × Batch) (u : Counts)
+          → ((b : Batch) (c : Counts) → counted-turns n t device host (onto f b) c ≡ counted-turns n t device-left host-left b c)
+          → count-on (counted-turns n t device host) (r .0, onto f (r .1)) u c ≡ count-on (counted-turns n t device-left host-left) r u c
+      by (none, x) u on = refl
+      by (some (refused q), x) u on = refl
+      by (some (blamed side w g), x) u on = refl
+      by (some forwarded, x) u on = on x u
+
   abbrev anew : Batch
   anew = begun (f .state) (drop (f .host .written) (f .host .output)) (drop (f .device .written) (f .device .output)) none
 
@@ -132,3 +161,6 @@ module _ (t : Words) (device host : List ℕ) (f : Batch) (i : f .device .writte
 
   pub goes-on-as : (n : ℕ) → turns n t device host f ≡ onto f (turns n t device-left host-left anew)
   goes-on-as n = ap (turns n t device host) as-onto ∙ turns-on n anew
+
+  pub counts-go-on-as : (n : ℕ) (c : Counts) → counted-turns n t device host f c ≡ counted-turns n t device-left host-left anew c
+  counts-go-on-as n c = ap (λ b. counted-turns n t device host b c) as-onto ∙ counts-on n anew c

@@ -1,4 +1,5 @@
--- A batch is its single calls: they come to an end, and whatever single calls there are, the batch does what they do.
+-- A batch is its single calls: they come to an end, and whatever single calls there are, the batch does what they do, and raises the counts
+-- that they raise.
 -- Assumes nothing.
 use mathlib.Core.Path.{_≡_, refl, sym, ap, ap₂, subst, _∙_}
 use mathlib.Core.Logic.{⊎-elim}
@@ -26,10 +27,12 @@ use Rattle.monitor.specs.Batch.{turn-of, one-turn, go-on, turns, begun}
 use Rattle.monitor.specs.Batches.{Left, output-for, left-after, HandsOut, Single, Singly, none-due, stops, goes-on}
 use Rattle.monitor.specs.Batches.{used-on, passed-from, lane-after, state-after, last-answer, summed, onto-lane, onto, left-by, BatchSingly}
 use Rattle.monitor.specs.Turns.{is-last-forwarded}
+use Rattle.monitor.specs.Counts.{Counts, raised-at, counted, first-left, awaited-message, turn-message, count-on, counted-turns}
+use Rattle.monitor.specs.Counting.{counts-after}
 use Rattle.monitor.proofs.Asking.{turn-its, zero-or, Way, refuses, forwards, blames, way}
 use Rattle.monitor.proofs.Waiting.{first-within, first-cut}
 use Rattle.monitor.proofs.Batching.{takes-none, takes-one, turn-is, turn-by, on-over, let-in}
-use Rattle.monitor.proofs.Resting.{goes-on-as}
+use Rattle.monitor.proofs.Resting.{goes-on-as, counts-go-on-as}
 use denote.Ref.{RefT}
 
 -- ---- the due message
@@ -373,9 +376,71 @@ module _ (t : Words) where
       ∙ ap (λ k. onto (with-one s l e) (summed (e .done .state) k r)) (sym (one-leaves s l e (e .sent .side) refl f))
       ∙ one-then s l e r
 
+-- ---- and their counts
+
+module _ (t : Words) where
+  first-message : (s : State) (l : Left) (side : Party) → awaited t s ≡ of-side side
+      → turn-message t (l .device) (l .host) (start t s l) ≡ message-of side l
+  unfolding turn-message awaited-message first-left begun waiting
+  first-message s l Device a = ap (λ o. awaited-message o (l .device) (l .host) (start t s l)) a
+  first-message s l Host a = ap (λ o. awaited-message o (l .device) (l .host) (start t s l)) a
+
+  abbrev counts-in : ℕ → State → Left → Counts → Counts
+  counts-in n s l c = counted-turns n t (l .device) (l .host) (start t s l) c
+
+  -- after a turn
+  abbrev count-next : ℕ → State → Left → Counts → Option Told × Batch → Counts
+  count-next n s l c r =
+      count-on (counted-turns n t (l .device) (l .host)) r
+      (raised-at t (s .position) (turn-message t (l .device) (l .host) (start t s l)) c) c
+
+  module _ (n : ℕ) (s : State) (l : Left) (e : Event) (g : Single t s l e) (c : Counts) where
+    raised-there : raised-at t (s .position) (turn-message t (l .device) (l .host) (start t s l)) c
+        ≡ counted t (e .met) (e .sent .bytes) forwarded c
+    unfolding counted event
+    raised-there =
+        ap₂ (λ p m. raised-at t p m c) (sym (ap (λ x. x .met .position) (g .stepped)))
+        (first-message s l (e .sent .side) (g .turn) ∙ handed t s l (e .sent .side) (e .sent .bytes) (g .turn) (g .due))
+
+    counts-stopped : (e .done .verdict ≡ forwarded → ⊥) → counts-in (suc n) s l c ≡ counts-after t c (e ∷ [])
+    unfolding counted-turns count-on begun counts-after counted
+    counts-stopped x = ap (count-next n s l c) (turn-single t s l e g) ∙ by (e .done .verdict) x
+      where
+        by : (v : Told) → (v ≡ forwarded → ⊥) → count-next n s l c (some v, with-one s l e) ≡ counted t (e .met) (e .sent .bytes) v c
+        by (refused q) x = refl
+        by (blamed side r f) x = refl
+        by forwarded x = absurd (x refl)
+
+    counts-went-on : e .done .verdict ≡ forwarded
+        → counts-in (suc n) s l c
+        ≡ counts-in n (e .done .state) (left-after (e .sent .side) (length (e .sent .bytes)) l) (counted t (e .met) (e .sent .bytes) (e .done .verdict) c)
+    unfolding counted-turns count-on begun summed left-by state-after
+    counts-went-on f =
+        ap (count-next n s l c) (turn-single t s l e g) ∙ ap (λ v. count-next n s l c (some v, with-one s l e)) f
+        ∙ counts-go-on-as t (l .device) (l .host) (with-one s l e) (written-within Device (e ∷ []) (l .to-host))
+        (written-within Host (e ∷ []) (l .to-device)) n _
+        ∙ ap₂ (λ k d. counts-in n (e .done .state) k d) (one-leaves s l e (e .sent .side) refl f)
+        (raised-there ∙ ap (λ v. counted t (e .met) (e .sent .bytes) v c) (sym f))
+
+  turns-counted : (n : ℕ) (s : State) (l : Left) (c : Counts) → bytes-left l < n → (events : List Event) → Singly t s l events
+      → counts-in n s l c ≡ counts-after t c events
+  unfolding counted-turns count-on begun counts-after
+  turns-counted zero s l c h events x = absurd (omega (arith, h))
+  turns-counted (suc n) s l c h events (none-due d) = ap (count-next n s l c) (turn-none t s l d)
+  turns-counted (suc n) s l c h events (stops {e = e} g x) = counts-stopped n s l e g c x
+  turns-counted (suc n) s l c h events (goes-on {e = e} {r = r} g f x) =
+      counts-went-on n s l e g c f
+      ∙ turns-counted n (e .done .state) (left-after (e .sent .side) (length (e .sent .bytes)) l)
+      (counted t (e .met) (e .sent .bytes) (e .done .verdict) c) (omega (arith, h, single-fewer t s l e g)) r x
+
 pub batch-singly : BatchSingly
 batch-singly t s l q = (
   listed t (suc (bytes-left l)) s l (omega arith),
   λ events x.
       sym (let-in t (l .device) (l .host) s (l .to-device) (l .to-host) q) ∙ turns-singly t (suc (bytes-left l)) s l (omega arith) events x,
 )
+
+pub batch-counted : (t : Words) (s : State) (l : Left) (c : Counts) (events : List Event) → Singly t s l events
+    → counted-turns (suc (length (l .device) + length (l .host))) t (l .device) (l .host) (begun s (l .to-device) (l .to-host) none) c
+    ≡ counts-after t c events
+batch-counted t s l c events x = turns-counted t (suc (bytes-left l)) s l c (omega arith) events x

@@ -6,9 +6,10 @@ use mathlib.Core.List.{List}
 use mathlib.Core.Option.{Option, none, some}
 use Prim.Native.Nat.{ℕ, _+_, _≤_, _<_}
 use lib.ListN.{length}
-use Rattle.table.specs.View.{Words, sound-at}
+use Rattle.table.specs.View.{Words, branches-of, target-at, view, sound-at}
 use Rattle.table.specs.declared.Party.{Party}
-use Rattle.message.specs.Message.{refusal}
+use Rattle.message.specs.Message.{read, refusal}
+use Rattle.message.specs.Judge.{selected}
 use Rattle.monitor.specs.declared.State.{State}
 use Rattle.monitor.specs.declared.straight.Ahead.{Ahead}
 use Rattle.monitor.specs.declared.batch.Last.{Last}
@@ -21,6 +22,7 @@ use Rattle.monitor.specs.Step.{Told, forwarded}
 use Rattle.monitor.specs.Due.{of-side, awaited}
 use Rattle.monitor.specs.Conversation.{is-forwarded}
 use Rattle.monitor.specs.Batch.{Batch, taking, one-turn, last-of, batched}
+use Rattle.monitor.specs.Counts.{Counts, raised-at, counted, first-left, turn-message}
 use Rattle.monitor.specs.Batch as B
 
 -- a well-formed message of the side whose turn it is: only 16 is left to ask
@@ -44,10 +46,11 @@ unfoldable pub is-last-forwarded : Option Told → Bool
 is-last-forwarded none = false
 is-last-forwarded (some v) = is-forwarded v
 
--- from one batch to another by turns that forward
-pub data Led (t : Words) (device host : List ℕ) (b : Batch) : Batch → Type 0 where
-  no-turn : Led t device host b b
-  a-turn : {c d : Batch} → Led t device host b c → one-turn t device host c ≡ (some forwarded, d) → Led t device host b d
+-- from one batch and its counts to another by turns that forward
+pub data Led (t : Words) (device host : List ℕ) (b : Batch) (c : Counts) : Batch → Counts → Type 0 where
+  no-turn : Led t device host b c b c
+  a-turn : {x y : Batch} {d : Counts} → Led t device host b c x d → one-turn t device host x ≡ (some forwarded, y)
+      → Led t device host b c y (raised-at t (x .state .position) (turn-message t device host x) d)
 
 -- the program's answer before any turn, and at a state
 abbrev pub none-passed : State → Last → Batched
@@ -67,18 +70,29 @@ taken-of r out = record { answer = last-of (r .answer); state = r .state; lane =
 abbrev pub turned-told : Turned → List ℕ → List ℕ → Option Told × Batch
 turned-told r to-device to-host = (last-of (r .answer), batched (r .batch) to-device to-host)
 
+-- the counts after an answer, if there was one, to a message
+abbrev pub answer-counted : Words → State → List ℕ → Option Told → Counts → Counts
+answer-counted t s message none c = c
+answer-counted t s message (some v) c = counted t s message v c
+
+-- one turn, and the counts after it
+abbrev pub counted-one-turn : Words → List ℕ → List ℕ → Batch → Counts → (Option Told × Batch) × Counts
+counted-one-turn t device host b c =
+    (one-turn t device host b, answer-counted t (b .state) (turn-message t device host b) (one-turn t device host b .0) c)
+
 -- the state after a message that went straight
 abbrev pub moved-to : ℕ → State → State
 moved-to target s = record { position = target; standing = s .standing }
 
 -- what is ahead is the turn of whoever has it at this position; `after` is the output then. Nothing is done where it does not go straight
 pub record PassedOn (t : Words) (position : ℕ) (bytes : List ℕ) (l : B.Lane) (after : List ℕ) (r : Ahead) : Type 0 where
-  pub straight : r .target < 32 → (s : State) (side : Party) → s .position ≡ position → awaited t s ≡ of-side side
+  pub straight : r .branch < 128 → (s : State) (side : Party) → s .position ≡ position → awaited t s ≡ of-side side
       → taking t s side bytes l
       ≡ record {
         answer = some forwarded;
-        state = moved-to (r .target) s;
+        state = moved-to (target-at t (r .branch)) s;
         lane = record { used = l .used + r .length; written = l .written + r .length; output = after };
       }
-  pub within : r .target < 32 → (l .used + r .length ≤ length bytes) × (l .written + r .length ≤ length (l .output))
-  pub stays : (r .target < 32 → ⊥) → after ≡ l .output
+  pub picked : r .branch < 128 → (r .branch < branches-of t) × (selected (view t) position (read (first-left bytes l)) ≡ some (r .branch))
+  pub within : r .branch < 128 → (l .used + r .length ≤ length bytes) × (l .written + r .length ≤ length (l .output))
+  pub stays : (r .branch < 128 → ⊥) → after ≡ l .output

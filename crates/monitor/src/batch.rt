@@ -6,17 +6,20 @@ ghost use mathlib.Core.Bool.{true};
 ghost use mathlib.Core.List.{List};
 ghost use Prim.Native.Nat.{ℕ, _+_, _≤_};
 ghost use Rattle.monitor.specs.Step.{is-running};
-ghost use Rattle.monitor.specs.Batch.{latest, device-took, host-took, one-turn, batching, last-of, batched};
-ghost use Rattle.monitor.specs.Turns.{Within, Led, is-last-forwarded, none-passed, passed-at, taken-of, turned-told};
+ghost use Rattle.monitor.specs.Batch.{latest, device-took, host-took, last-of, batched};
+ghost use Rattle.monitor.specs.Turns.{Within, Led, is-last-forwarded, none-passed, passed-at, taken-of, turned-told, counted-one-turn};
+ghost use Rattle.monitor.specs.Counts.{counted-batch};
+ghost use Rattle.monitor.specs.Leaves.{Rising};
 ghost use Rattle.monitor.specs.declared.State.{State};
 ghost use Rattle.monitor.specs.declared.Verdict.the-variants.{Forwarded};
 ghost use Rattle.monitor.specs.declared.batch.Last.the-variants.{Answer};
+use super::Counts;
 use super::State;
 use super::Verdict;
 use super::ask;
+use super::counts;
 use super::lane;
 use super::lane::Taken;
-use super::straight::Ahead;
 use table::Party;
 use table::Table;
 
@@ -48,23 +51,24 @@ pub struct Batched {
 pub fn batch(
     t: &Table,
     s: State,
+    c: &mut Counts,
     device: &[u8],
     host: &[u8],
     to_device: &mut [u8],
     to_host: &mut [u8],
 ) -> Batched
-    ensures { λ r. ⌜ batched r (now («to_device» .exit)) (now («to_host» .exit))
-        ≡ batching (now (t .entry)) s (now (device .entry)) (now (host .entry))
+    ensures { λ r. ⌜ (batched r (now («to_device» .exit)) (now («to_host» .exit)), now (c .exit))
+        ≡ counted-batch (now (t .entry)) s (now (c .entry)) (now (device .entry)) (now (host .entry))
         (now («to_device» .entry)) (now («to_host» .entry)) ⌝ }
 {
-    let q = ask::of_batch(t, s);
+    let q = ask::of_batch(t, s, c);
     if q != 0 {
         return begun(s, Last::Answer(Verdict::Refused(q)));
     }
     let mut b = begun(s, Last::NoneDue);
     loop {
-        let far = straight_on(t, b, device, host, to_device, to_host);
-        let r = turn(t, far, device, host, to_device, to_host);
+        let far = straight_on(t, b, c, device, host, to_device, to_host);
+        let r = turn(t, far, c, device, host, to_device, to_host);
         let next = r.batch;
         let answer = r.answer;
         if !is_forwarded(answer) {
@@ -78,16 +82,17 @@ pub fn batch(
 pub fn advance(
     t: &Table,
     s: &mut State,
+    c: &mut Counts,
     device: &[u8],
     host: &[u8],
     to_device: &mut [u8],
     to_host: &mut [u8],
 ) -> Passed
-    ensures { λ r. ⌜ batched (record { state = now (s .exit); passed = r }) (now («to_device» .exit)) (now («to_host» .exit))
-        ≡ batching (now (t .entry)) (now (s .entry)) (now (device .entry)) (now (host .entry))
+    ensures { λ r. ⌜ (batched (record { state = now (s .exit); passed = r }) (now («to_device» .exit)) (now («to_host» .exit)), now (c .exit))
+        ≡ counted-batch (now (t .entry)) (now (s .entry)) (now (c .entry)) (now (device .entry)) (now (host .entry))
         (now («to_device» .entry)) (now («to_host» .entry)) ⌝ }
 {
-    let r = batch(t, *s, device, host, to_device, to_host);
+    let r = batch(t, *s, c, device, host, to_device, to_host);
     *s = r.state;
     r.passed
 }
@@ -114,15 +119,17 @@ fn begun(s: State, last: Last) -> Batched
 fn straight_on(
     t: &Table,
     from: Batched,
+    c: &mut Counts,
     device: &[u8],
     host: &[u8],
     to_device: &mut [u8],
     to_host: &mut [u8],
 ) -> Batched
     requires { ⌜ Within (now t) (now device) (now host) (batched from (now «to_device») (now «to_host»))
-        × (is-running (from .state .standing) ≡ true) ⌝ }
+        × (is-running (from .state .standing) ≡ true) × Rising (now t) (now c) ⌝ }
     ensures { λ r. ⌜ Led (now (t .entry)) (now (device .entry)) (now (host .entry))
-        (batched from (now («to_device» .entry)) (now («to_host» .entry))) (batched r (now («to_device» .exit)) (now («to_host» .exit))) ⌝ }
+        (batched from (now («to_device» .entry)) (now («to_host» .entry))) (now (c .entry))
+        (batched r (now («to_device» .exit)) (now («to_host» .exit))) (now (c .exit)) ⌝ }
 {
     let mut b = from;
     loop {
@@ -134,30 +141,34 @@ fn straight_on(
         }
         if sort == 1 {
             let first = lane::pass(t, s.position, p.device, device, to_host);
-            if 32 <= first.target {
+            if 128 <= first.branch {
                 return b;
             }
-            b = forwarded(s, first, further(p.device, first.length), p.host);
+            counts::raise(c, s.position, first.branch);
+            let next = t[table::TARGET + first.branch] as u8;
+            b = forwarded(s, next, further(p.device, first.length), p.host);
         } else {
             let first = lane::pass(t, s.position, p.host, host, to_device);
-            if 32 <= first.target {
+            if 128 <= first.branch {
                 return b;
             }
-            b = forwarded(s, first, p.device, further(p.host, first.length));
+            counts::raise(c, s.position, first.branch);
+            let next = t[table::TARGET + first.branch] as u8;
+            b = forwarded(s, next, p.device, further(p.host, first.length));
         }
     }
 }
 
 // After a message that went straight.
-fn forwarded(s: State, first: Ahead, device: Lane, host: Lane) -> Batched
+fn forwarded(s: State, next: u8, device: Lane, host: Lane) -> Batched
     ensures { λ r. ⌜ r ≡ record {
-      state = record { position = first .target; standing = s .standing };
+      state = record { position = next; standing = s .standing };
       passed = record { device = device; host = host; last = Answer Forwarded };
     } ⌝ }
 {
     let standing = s.standing;
     let state = State {
-        position: first.target,
+        position: next,
         standing,
     };
     let last = Last::Answer(Verdict::Forwarded);
@@ -187,16 +198,17 @@ struct Turned {
 fn turn(
     t: &Table,
     b: Batched,
+    c: &mut Counts,
     device: &[u8],
     host: &[u8],
     to_device: &mut [u8],
     to_host: &mut [u8],
 ) -> Turned
     requires { ⌜ Within (now t) (now device) (now host) (batched b (now «to_device») (now «to_host»))
-        × (is-running (b .state .standing) ≡ true) ⌝ }
-    ensures { λ r. ⌜ turned-told r (now («to_device» .exit)) (now («to_host» .exit))
-        ≡ one-turn (now (t .entry)) (now (device .entry)) (now (host .entry))
-        (batched b (now («to_device» .entry)) (now («to_host» .entry))) ⌝ }
+        × (is-running (b .state .standing) ≡ true) × Rising (now t) (now c) ⌝ }
+    ensures { λ r. ⌜ (turned-told r (now («to_device» .exit)) (now («to_host» .exit)), now (c .exit))
+        ≡ counted-one-turn (now (t .entry)) (now (device .entry)) (now (host .entry))
+        (batched b (now («to_device» .entry)) (now («to_host» .entry))) (now (c .entry)) ⌝ }
 {
     let s = b.state;
     let p = b.passed;
@@ -208,10 +220,10 @@ fn turn(
         };
     }
     if sort == 1 {
-        let x = lane::take(t, s, Party::Device, p.device, device, to_host);
+        let x = lane::take(t, s, c, Party::Device, p.device, device, to_host);
         return of_device(p, x);
     }
-    let x = lane::take(t, s, Party::Host, p.host, host, to_device);
+    let x = lane::take(t, s, c, Party::Host, p.host, host, to_device);
     of_host(p, x)
 }
 

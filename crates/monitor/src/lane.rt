@@ -4,8 +4,11 @@ ghost use mathlib.Core.Bool.{true};
 ghost use Rattle.table.specs.View.{sound-of};
 ghost use Rattle.monitor.specs.Step.{told, stepping, outcome};
 ghost use Rattle.monitor.specs.Due.{awaited, of-side};
-ghost use Rattle.monitor.specs.Batch.{used-by, written-by, taking};
-ghost use Rattle.monitor.specs.Turns.{Heard, LaneIn, lane-of, taken-of, PassedOn};
+ghost use Rattle.monitor.specs.Batch.{used-by, written-by, taking, last-of};
+ghost use Rattle.monitor.specs.Turns.{Heard, LaneIn, lane-of, taken-of, answer-counted, PassedOn};
+ghost use Rattle.monitor.specs.Counts.{counted, first-left};
+ghost use Rattle.monitor.specs.Leaves.{Rising};
+use super::Counts;
 use super::State;
 use super::Stepped;
 use super::Verdict;
@@ -34,7 +37,7 @@ pub fn pass(t: &Table, position: u8, lane: Lane, bytes: &[u8], out: &mut [u8]) -
     let to = lane.written;
     let rest = &bytes[at..];
     let first = straight::look_ahead(t, position, rest, out.len() - to);
-    if first.target < 32 {
+    if first.branch < 128 {
         let n = first.length;
         copy::to_front(&rest[..n], &mut out[to..]);
     }
@@ -42,9 +45,18 @@ pub fn pass(t: &Table, position: u8, lane: Lane, bytes: &[u8], out: &mut [u8]) -
 }
 
 // The first message of what is left, whatever becomes of it: the step is given what is left of the output.
-pub fn take(t: &Table, s: State, side: Party, lane: Lane, bytes: &[u8], out: &mut [u8]) -> Taken
-    requires { ⌜ (awaited (now t) s ≡ of-side side) × LaneIn (now bytes) (lane-of lane (now out)) ⌝ }
-    ensures { λ r. ⌜ taken-of r (now (out .exit)) ≡ taking (now (t .entry)) s side (now (bytes .entry)) (lane-of lane (now (out .entry))) ⌝ }
+pub fn take(
+    t: &Table,
+    s: State,
+    c: &mut Counts,
+    side: Party,
+    lane: Lane,
+    bytes: &[u8],
+    out: &mut [u8],
+) -> Taken
+    requires { ⌜ (awaited (now t) s ≡ of-side side) × Rising (now t) (now c) × LaneIn (now bytes) (lane-of lane (now out)) ⌝ }
+    ensures { λ r. ⌜ (taken-of r (now (out .exit)) ≡ taking (now (t .entry)) s side (now (bytes .entry)) (lane-of lane (now (out .entry))))
+        × (now (c .exit) ≡ answer-counted (now (t .entry)) s (first-left (now (bytes .entry)) (lane-of lane (now (out .entry)))) (last-of (r .answer)) (now (c .entry))) ⌝ }
 {
     let at = lane.used;
     let rest = &bytes[at..];
@@ -57,7 +69,7 @@ pub fn take(t: &Table, s: State, side: Party, lane: Lane, bytes: &[u8], out: &mu
         };
     }
     let to = lane.written;
-    let x = heard(t, s, side, &rest[..n], &mut out[to..]);
+    let x = heard(t, s, c, side, &rest[..n], &mut out[to..]);
     let verdict = x.verdict;
     let state = x.state;
     let after = Lane {
@@ -72,16 +84,24 @@ pub fn take(t: &Table, s: State, side: Party, lane: Lane, bytes: &[u8], out: &mu
 }
 
 // A step on a due message: only 16 is left to ask.
-fn heard(t: &Table, s: State, side: Party, message: &[u8], out: &mut [u8]) -> Stepped
-    requires { ⌜ Heard (now t) s side (now message) ⌝ }
-    ensures { λ r. ⌜ outcome r (now (out .exit)) ≡ stepping (now (t .entry)) s side (now (message .entry)) (now (out .entry)) ⌝ }
+fn heard(
+    t: &Table,
+    s: State,
+    c: &mut Counts,
+    side: Party,
+    message: &[u8],
+    out: &mut [u8],
+) -> Stepped
+    requires { ⌜ Heard (now t) s side (now message) × Rising (now t) (now c) ⌝ }
+    ensures { λ r. ⌜ (outcome r (now (out .exit)) ≡ stepping (now (t .entry)) s side (now (message .entry)) (now (out .entry)))
+        × (now (c .exit) ≡ counted (now (t .entry)) s (now (message .entry)) (told (r .verdict)) (now (c .entry))) ⌝ }
 {
     if out.len() < message.len() {
         return super::refused(s, 16);
     }
     let position = s.position;
     let judged = judge::judge(t, position, message);
-    super::settle(judged, s, side, message, out)
+    super::settle(t, judged, s, c, side, message, out)
 }
 
 // Of a message of n bytes: those of a forwarded or blamed one are used, those of a forwarded one written.

@@ -11,42 +11,42 @@ use super::judge;
 use table::Party;
 use table::Table;
 
-// Where a message leads that gets a yes to 12 to 16 and is allowed; 32 for any other.
-pub fn leads_to(t: &Table, position: u8, sort: u32, side: Party, message: &[u8], room: usize) -> u8
+// The branch that a message takes which gets a yes to 12 to 16 and is allowed; 128 for any other.
+pub fn takes(t: &Table, position: u8, sort: u32, side: Party, message: &[u8], room: usize) -> usize
     requires { ⌜ sound-of (now t) ≡ true ⌝ }
-    ensures { λ r. ⌜ (r < 32 → Straight (now (t .entry)) position sort side (now (message .entry)) room r) ⌝ }
+    ensures { λ r. ⌜ (r < 128 → Straight (now (t .entry)) position sort side (now (message .entry)) room r) ⌝ }
 {
     if !ask::has_turn(side, sort) {
-        return 32;
+        return 128;
     }
     let size = message.len();
     if room < size {
-        return 32;
+        return 128;
     }
     if size < 9 {
-        return 32;
+        return 128;
     }
     let n = t[table::BRANCHES] as usize;
     let b = judge::find(t, n, position, message);
     if n <= b {
-        return 32;
+        return 128;
     }
     if held(t, b, message) != size {
-        return 32;
+        return 128;
     }
-    t[table::TARGET + b] as u8
+    b
 }
 
-// Where the first message of some bytes leads, and its length. Target 32: it does not go straight.
+// The branch that the first message of some bytes takes, and its length. Branch 128: it does not go straight.
 pub struct Ahead {
-    pub target: u8,
+    pub branch: usize,
     pub length: usize,
 }
 
 // The first message of bytes that may go on, where it is well formed, all there, allowed at the position, and the room holds it.
 pub fn look_ahead(t: &Table, position: u8, bytes: &[u8], room: usize) -> Ahead
     requires { ⌜ sound-of (now t) ≡ true ⌝ }
-    ensures { λ r. ⌜ (r .target < 32 → Leading (now (t .entry)) position (now (bytes .entry)) room (r .length) (r .target)) ⌝ }
+    ensures { λ r. ⌜ (r .branch < 128 → Leading (now (t .entry)) position (now (bytes .entry)) room (r .length) (r .branch)) ⌝ }
 {
     if bytes.len() < 9 {
         return nowhere();
@@ -63,15 +63,14 @@ pub fn look_ahead(t: &Table, position: u8, bytes: &[u8], room: usize) -> Ahead
     if room < length {
         return nowhere();
     }
-    let target = t[table::TARGET + b] as u8;
-    Ahead { target, length }
+    Ahead { branch: b, length }
 }
 
 fn nowhere() -> Ahead
-    ensures { λ r. ⌜ r ≡ record { target = 32; length = 0 } ⌝ }
+    ensures { λ r. ⌜ r ≡ record { branch = 128; length = 0 } ⌝ }
 {
     Ahead {
-        target: 32,
+        branch: 128,
         length: 0,
     }
 }

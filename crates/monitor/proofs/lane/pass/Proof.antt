@@ -23,7 +23,13 @@ returns c =
     passed-on _ _ _ (lane-of (a .lane) (a .out .now)) (c .before .before .before .before .before .before .before .before .before .before .before .pre .1) _ (c .before .before .before .before .before .before .before .look-ahead .ensures (c .before .before .before .before .before .if1 .taken)) (c .before .before .before .before .before .if1 .taken) _ (c .before .before .to-front .ensures)
 
 returns-2 : tie.Need-returns-2
-returns-2 c = record { straight = λ h. absurd (omega (arith, h, c .if1 .left)); within = λ h. absurd (omega (arith, h, c .if1 .left)); stays = λ h. refl }
+returns-2 c =
+    record {
+      straight = λ h. absurd (omega (arith, h, c .if1 .left));
+      picked = λ h. absurd (omega (arith, h, c .if1 .left));
+      within = λ h. absurd (omega (arith, h, c .if1 .left));
+      stays = λ h. refl;
+    }
 
 pub pass-spec : {M : Type 1} → statement M
 pass-spec =

@@ -1,28 +1,21 @@
--- `monitor::straight::look_ahead` meets its contract: nothing is said of 32, and the rest is one law. Assumes nothing.
+-- `monitor::straight::look_ahead` meets its contract: nothing is said of 128, and the rest is one law. Assumes nothing.
 use mathlib.Core.Path.{_≡_, ap}
 use Prim.Native.Nat.{_<_}
 use native.Mathlib.Omega.{arith}
 use borrow.Author.Needs.{needs}
-use Rattle.table.proofs.Facts.{Facts, sound-facts}
+use Rattle.table.proofs.Facts.{sound-facts}
 use Rattle.monitor.specs.declared.straight.Ahead.{Ahead}
 use Rattle.monitor.proofs.Carrying.{straight}
 use Rattle.monitor.proofs.straight.look_ahead.Statement.{statement}
 use Rattle.monitor.proofs.straight.look_ahead.Tie as tie
 
--- what is known once a branch was looked for
+-- where a branch was looked for
 abbrev start : tie.After-find → tie.Start
 start c = c .before .before .before .before
 
-facts : (c : tie.After-find) → Facts (start c .args .t .now)
-facts c = sound-facts _ (start c .pre)
-
--- and once it was found
-place : (c : tie.Else2) → c .before .find .result < 128
-place c = omega (arith, facts (c .before) .room, c .if2 .left)
-
--- nowhere is no target
-not-there : (r : Ahead) → r ≡ record { target = 32; length = 0 } → r .target < 32 → ⊥
-not-there r e l = omega (arith, ap (λ (r : Ahead). r .target) e)
+-- nowhere is no branch
+not-there : (r : Ahead) → r ≡ record { branch = 128; length = 0 } → r .branch < 128 → ⊥
+not-there r e l = omega (arith, ap (λ (r : Ahead). r .branch) e)
 
 returns : tie.Need-returns
 returns c l = absurd (not-there _ (c .nowhere .ensures) l)
@@ -45,27 +38,13 @@ returns-3 c l = absurd (not-there _ (c .nowhere3 .ensures) l)
 returns-4 : tie.Need-returns-4
 returns-4 c l = absurd (not-there _ (c .nowhere4 .ensures) l)
 
-add-target : tie.Need-add-target
-add-target c = record { fits = omega (arith, place (c .before .before .before)) }
-
-mul-target : tie.Need-mul-target
-mul-target c = record { fits = omega (arith, place (c .before .before .before)) }
-
-element-copy-out-target : tie.Need-element-copy-out-target
-element-copy-out-target c = omega (arith, place (c .before .before .before))
-
-cast-target : tie.Need-cast-target
-cast-target c =
-    let e = c .before .before .before .before in
-    record { fits = omega (arith, facts (e .before) .targets _ (e .if2 .left), facts (e .before) .few) }
-
 returns-5 : tie.Need-returns-5
 returns-5 c l =
-    let e = c .before .before .before .before in
+    let e = c .before .before .before in
     let f = e .before in
     let a = start f .args in
     straight (a .t .now) (start f .pre) (a .bytes .now) (f .before .before .if1 .left) (a .position) (f .find .result) (f .find .ensures) (e .if2 .left)
-    _ (c .before .before .before .held .ensures (c .before .before .if3 .left)) (a .room) (c .before .if4 .left)
+    _ (c .before .before .held .ensures (c .before .if3 .left)) (a .room) (c .if4 .left)
 
 pub look-ahead-spec : {M : Type 1} → statement M
 look-ahead-spec =
@@ -83,8 +62,4 @@ look-ahead-spec =
     returns-3
     (λ c κs. search needs)
     returns-4
-    add-target
-    mul-target
-    element-copy-out-target
-    cast-target
     returns-5)

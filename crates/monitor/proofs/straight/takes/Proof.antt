@@ -1,24 +1,16 @@
--- `monitor::straight::leads_to` meets its contract: nothing is said of 32, and the rest is one law. Assumes nothing.
+-- `monitor::straight::takes` meets its contract: nothing is said of 128, and the rest is one law. Assumes nothing.
 use mathlib.Core.Path.{sym, _∙_}
-use Prim.Native.Nat.{_<_}
 use native.Mathlib.Omega.{arith}
 use borrow.Author.Needs.{needs}
 use borrow.Author.Tests.{not-false}
-use Rattle.table.proofs.Facts.{Facts, sound-facts}
+use Rattle.table.proofs.Facts.{sound-facts}
 use Rattle.monitor.proofs.Carrying.{straight, straight-alone}
-use Rattle.monitor.proofs.straight.leads_to.Statement.{statement}
-use Rattle.monitor.proofs.straight.leads_to.Tie as tie
+use Rattle.monitor.proofs.straight.takes.Statement.{statement}
+use Rattle.monitor.proofs.straight.takes.Tie as tie
 
--- what is known once a branch was looked for
+-- where a branch was looked for
 abbrev start : tie.After-find → tie.Start
 start c = c .before .before .before .before .before .before .before
-
-facts : (c : tie.After-find) → Facts (start c .args .t .now)
-facts c = sound-facts _ (start c .pre)
-
--- and once it was found
-place : (c : tie.Else4) → c .before .find .result < 128
-place c = omega (arith, facts (c .before) .room, c .if4 .left)
 
 returns : tie.Need-returns
 returns c l = absurd (omega arith)
@@ -44,34 +36,20 @@ held-requires c κs = (start (c .before) .pre, c .if4 .left, c .before .before .
 returns-5 : tie.Need-returns-5
 returns-5 c l = absurd (omega arith)
 
-add-result : tie.Need-add-result
-add-result c = record { fits = omega (arith, place (c .before .before)) }
-
-mul-result : tie.Need-mul-result
-mul-result c = record { fits = omega (arith, place (c .before .before)) }
-
-element-copy-out-result : tie.Need-element-copy-out-result
-element-copy-out-result c = omega (arith, place (c .before .before))
-
-cast-result : tie.Need-cast-result
-cast-result c =
-    let e = c .before .before .before in
-    record { fits = omega (arith, facts (e .before) .targets _ (e .if4 .left), facts (e .before) .few) }
-
 returns-6 : tie.Need-returns-6
 returns-6 c l =
-    let e = c .before .before .before in
+    let e = c .before .before in
     let f = e .before in
     let a = start f .args in
     let nine = f .before .before .if3 .left in
-    let size = c .before .if5 .left in
+    let size = c .if5 .left in
     straight-alone (a .t .now) (a .position) (a .message .now) (a .room) _ _
     (straight (a .t .now) (start f .pre) (a .message .now) nine (a .position) (f .find .result) (f .find .ensures) (e .if4 .left)
-    _ (c .before .before .held .ensures (λ z. omega (arith, z, size, nine))) (a .room) (omega (arith, size, f .before .before .before .if2 .left)))
+    _ (c .before .held .ensures (λ z. omega (arith, z, size, nine))) (a .room) (omega (arith, size, f .before .before .before .if2 .left)))
     size (a .sort) (a .side) (sym (f .before .before .before .before .before .has-turn .ensures) ∙ not-false _ (f .before .before .before .before .if1 .left))
 
-pub leads-to-spec : {M : Type 1} → statement M
-leads-to-spec =
+pub takes-spec : {M : Type 1} → statement M
+takes-spec =
     tie.close
     (tie.spec
     (λ c κs. search needs)
@@ -84,8 +62,4 @@ leads-to-spec =
     returns-4
     held-requires
     returns-5
-    add-result
-    mul-result
-    element-copy-out-result
-    cast-result
     returns-6)

@@ -1,0 +1,92 @@
+-- Each way through a step, and through whose turn it is, with the counts.
+-- Assumes nothing.
+use mathlib.Core.Path.{_≡_, refl, sym, ap, ap₂, _∙_}
+use mathlib.Core.Bool.{true, cond}
+use mathlib.Core.List.{List}
+use mathlib.Core.Option.{some}
+use Prim.Native.Nat.{ℕ, _≤_}
+use lib.ListN.{length}
+use Rattle.table.specs.Lists.{first-no}
+use Rattle.table.specs.View.{Words, target-at, view, sound-of}
+use Rattle.table.specs.declared.Party.{Party}
+use Rattle.message.specs.Message.{Message, read}
+use Rattle.message.specs.Judge.{selected, allowed, judge}
+use Rattle.monitor.specs.declared.State.{State}
+use Rattle.monitor.specs.declared.judge.Judged.{Judged}
+use Rattle.monitor.specs.declared.judge.Judged.the-variants.{Allowed, Forbidden}
+use Rattle.monitor.specs.Step.{of-state, step-questions, Told, refusing, blaming, forwarding, judging}
+use Rattle.monitor.specs.Due.{awaited}
+use Rattle.monitor.specs.Due as Due
+use Rattle.monitor.specs.Counts.{Counts, counts-sound, raised, raised-by, counted, counted-step, counted-turn}
+use Rattle.monitor.specs.Leaves.{judgement, judged-branch, Rising, Settled, ByBranch}
+use Rattle.monitor.proofs.Asking.{nine-by, asked-first, refused-step, judged-as}
+use Rattle.monitor.proofs.Waiting.{refused-turn}
+use Rattle.monitor.proofs.Raising.{chosen-branch, raised-at-is}
+
+pub together : {A B : Type 0} {a b : A} {x y : B} → a ≡ b → x ≡ y → _≡_ {A = A × B} (a, x) (b, y)
+together e f = ap₂ (λ a x. (a, x)) e f
+
+-- ---- whose turn it is
+
+module _ (t : Words) (s : State) (c : Counts) where
+  pub turn-refused : (q : ℕ) → q ≡ cond (counts-sound t c) (first-no (of-state t s)) 9 → (q ≡ 0 → ⊥) → counted-turn t s c ≡ Due.refused q
+  unfolding counted-turn
+  turn-refused q e n =
+      nine-by (counts-sound t c) e (λ b h. rw b (refused-turn t s q h n)) (λ b h. rw (b, h))
+
+  pub turn-passed : counts-sound t c ≡ true → counted-turn t s c ≡ awaited t s
+  unfolding counted-turn
+  turn-passed e = rw e
+
+-- ---- a judgement is settled
+
+-- the branch in it is one of the state's
+pub settles : (t : Words) (j : Judged) (s : State) (c : Counts) (n room : ℕ) → sound-of t ≡ true → Rising t c → 8 ≤ n → n ≤ room
+    → (m : Message) → judged-branch j ≡ selected (view t) (s .position) m → Settled t j s c n room
+settles t j s c n room sound rising eight holds m e =
+    record {
+      eight = eight;
+      holds = holds;
+      takes = λ b h.
+          let x = chosen-branch t (s .position) m b (sym e ∙ h) in
+          record { sound = sound; there = x .0; owned = x .1; rising = rising; eight = eight; holds = holds };
+    }
+
+module _ (t : Words) (s : State) (c : Counts) (side : Party) (message out : List ℕ) where
+  -- what it raises is what the verdict counts
+  pub settled-counted : (j : Judged) → judged-branch j ≡ selected (view t) (s .position) (read message)
+      → (v : Told) → v ≡ judging (judgement t j) s side message out .verdict
+      → raised-by c (s .position) (judged-branch j) ≡ counted t s message v c
+  unfolding judged-branch judgement judging forwarding blaming counted raised-by
+  settled-counted (Allowed b) p v e =
+      sym (raised-at-is t (s .position) message c (some b) (sym p)) ∙ ap (λ v. counted t s message v c) (sym e)
+  settled-counted (Forbidden why) p v e = ap (λ v. counted t s message v c) (sym e)
+
+  -- ---- a step
+
+  pub way-unasked : (q : ℕ) → q ≡ cond (counts-sound t c) (first-no (of-state t s)) 9 → (q ≡ 0 → ⊥)
+      → (refusing q s out, c) ≡ counted-step t s c side message out
+  unfolding counted-step refusing counted
+  way-unasked q e n =
+      nine-by (counts-sound t c) e
+      (λ b h. rw (b, refused-step t s side message out q (asked-first t s side message (length out) q h n) n)) (λ b h. rw (b, h))
+
+  module _ (e : counts-sound t c ≡ true) where
+    pub way-refused : (p : ℕ) → first-no (step-questions t s side message (length out)) ≡ p → (p ≡ 0 → ⊥)
+        → (refusing p s out, c) ≡ counted-step t s c side message out
+    unfolding counted-step refusing counted
+    way-refused p h n = rw (e, refused-step t s side message out p h n)
+
+    module _ (asked : first-no (step-questions t s side message (length out)) ≡ 0) where
+      pub way-forwards : (b : ℕ) → ByBranch t (s .position) message b
+          → (forwarding (target-at t b) message s out, raised c (s .position) b) ≡ counted-step t s c side message out
+      unfolding counted-step judging forwarding counted raised-by
+      way-forwards b x =
+          rw (e, judged-as t s side message out (allowed (target-at t b)) asked (x .judged), raised-at-is t (s .position) message c (some b) (x .selected-one))
+
+      pub way-settled : (j : Judged) → judgement t j ≡ judge (view t) (s .position) (read message)
+          → judged-branch j ≡ selected (view t) (s .position) (read message)
+          → (judging (judgement t j) s side message out, raised-by c (s .position) (judged-branch j)) ≡ counted-step t s c side message out
+      unfolding counted-step
+      way-settled j h k =
+          rw (e, judged-as t s side message out (judgement t j) asked (sym h), settled-counted j k (judging (judgement t j) s side message out .verdict) refl)
