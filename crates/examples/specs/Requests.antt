@@ -1,9 +1,11 @@
 -- Document 02's examples, as checked lists, a list for each request that gives some.
 -- Assumes nothing.
 use mathlib.Core.Path.{_≡_}
+use mathlib.Core.Bool.{true}
 use mathlib.Core.List.{[], _∷_}
 use Prim.Native.String.{String}
-use Rattle.table.specs.View.{view}
+use Rattle.table.specs.View.{view, sound-of}
+use Rattle.monitor.specs.Warning.{WarningExamples}
 use Rattle.examples.specs.Twelve.{Reads, RefusedAt, table}
 use Rattle.table.specs.Table as T
 
@@ -15,6 +17,7 @@ A-again =
     record {
       sorts = T.sends ∷ [];
       branches = record { owner = 0; label = 65 ∷ 0 ∷ 0 ∷ 0 ∷ 0 ∷ 0 ∷ 0 ∷ 0 ∷ []; fields = []; target = 0 } ∷ [];
+      shares = 0 ∷ [];
     }
 
 abbrev pub ReadsAs : String → T.Table → Type 0
@@ -28,3 +31,29 @@ pub record NamesAfterRec : Type 0 where
   pub choice-outside : RefusedAt "+{!A().rec X.X}" 5 13
   pub own-binder : RefusedAt "rec X.+{!A().rec X.X}" 5 19
   pub four-first : RefusedAt "+{!A().rec X.Y}" 4 13
+
+-- ---- request 4: shares on choices
+
+abbrev pub shared-text : String
+shared-text = "+{!A()@10.end,!B()@990.end}"
+
+-- a choice with two branches, A of 10 thousandths and B of 990
+abbrev pub A-or-B : T.Table
+A-or-B =
+    record {
+      sorts = T.sends ∷ T.ends ∷ T.ends ∷ [];
+      branches =
+          record { owner = 0; label = 65 ∷ 0 ∷ 0 ∷ 0 ∷ 0 ∷ 0 ∷ 0 ∷ 0 ∷ []; fields = []; target = 1 }
+          ∷ record { owner = 0; label = 66 ∷ 0 ∷ 0 ∷ 0 ∷ 0 ∷ 0 ∷ 0 ∷ 0 ∷ []; fields = []; target = 2 }
+          ∷ [];
+      shares = 10 ∷ 990 ∷ [];
+    }
+
+pub record SharesRead : Type 0 where
+  pub with-shares : ReadsAs shared-text A-or-B
+  pub sound : sound-of (table shared-text) ≡ true
+  pub no-sum : RefusedAt "+{!A()@999.end}" 20 14
+  pub mixed : RefusedAt "+{!A()@1000.end,!B().end}" 20 24
+  pub no-share : RefusedAt "+{!A()@0.end}" 19 7
+  pub no-number : RefusedAt "+{!A()@05.end}" 2 7
+  pub warnings : WarningExamples

@@ -9,7 +9,7 @@ use native.Mathlib.Omega.{arith}
 use lib.ListN.{length}
 use Rattle.table.specs.Lists.{first-no}
 use Rattle.table.specs.Table.{Sort, ends, sends, receives, is-choice, sort, speaker, is-party}
-use Rattle.table.specs.View.{Words, view}
+use Rattle.table.specs.View.{Words, view, sound-of}
 use Rattle.message.specs.Message.{read, well-formed}
 use Rattle.message.specs.Judge.{allows}
 use Rattle.table.specs.declared.Party.{Party}
@@ -20,6 +20,8 @@ use Rattle.monitor.specs.declared.Reason.the-variants.{NoLabel, OtherKinds, Out
 use Rattle.monitor.specs.declared.Verdict.{Verdict}
 use Rattle.monitor.specs.declared.Verdict.the-variants.{Refused, Blamed, Forwarded}
 use Rattle.monitor.specs.Step.{step-questions, blamed, forwarded, told, Outcome, forwarding, blaming, stepping, outcome}
+use Rattle.monitor.specs.Counts.{Counts, counts-sound, legal-setting, start-questions, starting, counted-step}
+use Rattle.monitor.proofs.Raising.{fresh-sound}
 use Rattle.together.specs.Together.{running-at}
 use Rattle.together.proofs.Together.{asks, turn, judged-some, judged-none}
 use Rattle.report.specs.Playing.{InTurn}
@@ -37,6 +39,10 @@ in-turn sends Host e = let z : _≡_ {A = ℕ} 0 1 = cc in clash z
 in-turn receives Device e = let z : _≡_ {A = ℕ} 0 1 = cc in clash z
 in-turn receives Host e = refl
 
+started-sound : (t : Words) → sound-of t ≡ true → counts-sound t (starting t 1 .counts) ≡ true
+unfolding starting start-questions first-no legal-setting
+started-sound t s = rw s (fresh-sound 1 t refl)
+
 -- the verdict and the state after the step, as where the message leads
 unfoldable pub heard-as : Verdict → State → Option ℕ
 heard-as Forwarded s = some (s .position)
@@ -44,7 +50,13 @@ heard-as (Blamed side why) s = none
 heard-as (Refused q) s = none
 
 module _ (t : Words) (i : ℕ) (side : Party) (u : InTurn t i side) (bytes : List ℕ) (formed : well-formed bytes ≡ true) (before : List ℕ)
-    (room : length bytes ≤ length before) (r : Stepped) (after : List ℕ) (e : outcome r after ≡ stepping t (running-at i) side bytes before) where
+    (room : length bytes ≤ length before) (r : Stepped) (after : List ℕ) (c d : Counts) (begun : c ≡ starting t 1 .counts)
+    (k : (outcome r after, d) ≡ counted-step t (running-at i) c side bytes before) where
+  -- counts that are started pass 9, so the step is what it is without them
+  e : outcome r after ≡ stepping t (running-at i) side bytes before
+  unfolding counted-step
+  e = ap (λ (x : Outcome × Counts). x .0) k ∙ rw (ap (counts-sound t) begun ∙ started-sound t (u .sound))
+
   no-question : first-no (step-questions t (running-at i) side bytes (length before)) ≡ 0
   no-question = asks t (u .sound) i (u .inside) side bytes formed before room ∙ in-turn (sort (view t) i) side (u .turn)
 

@@ -11,10 +11,10 @@ use lib.ListN.{length, List·getD-eq-default}
 use lib.Seq.{length-take-le}
 use lib.Dec.{ltb}
 use borrow.Author.Tests.{ltb-true, ltb-false, lt-ltb}
-use Rattle.table.specs.Table.{Sort, ends, sends, receives, sort-code, same-sort, Table, Branch, sort, sound, speaker}
-use Rattle.table.specs.View.{Words, sort-at, view, known, sound-of, sort-of}
-use Rattle.table.proofs.Lists.{both, join, decided}
-use Rattle.table.proofs.Facts.{sort-of-is}
+use Rattle.table.specs.Table.{Sort, ends, sends, receives, sort-code, same-sort, Table, Branch, sort, speaker}
+use Rattle.table.specs.View.{Words, sort-at, view, sound-of, sort-of}
+use Rattle.table.proofs.Lists.{join, decided}
+use Rattle.table.proofs.Facts.{sort-of-is, view-sound}
 use Rattle.table.proofs.Sorts.{same-sort-eq}
 use Rattle.message.specs.Rules.{table-rules}
 use Rattle.message.specs.Message.{read, count-of, text-bytes, whole, well-formed}
@@ -90,10 +90,10 @@ there t k h w =
 -- and where the field is one of the message's, it is one of the branch's
 existing : (t : Words) → sound-of t ≡ true → (k : ℕ) (h : Option ℕ) → well-formed (made (branch (view t) k) h) ≡ true
     → field-named h (count-of (made (branch (view t) k) h)) ≡ true → exists (view t) k h ≡ true
-unfolding exists sound-of field-named names-field
+unfolding exists field-named names-field
 existing t s k h w f =
     let l = there (view t) k h w in
-    let g = branch-legal (view t) (both (known t) (sound (view t)) s .1) k l h in
+    let g = branch-legal (view t) (view-sound t s) k l h in
     join (lt-ltb k (length (view t .branches)) l)
     (go h (subst (λ (n : ℕ). field-named h n ≡ true) (made-count (branch (view t) k) g h) f))
   where

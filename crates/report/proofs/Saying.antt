@@ -10,10 +10,10 @@ use lib.ListN.{length, take, drop, length-append, length-drop}
 use lib.Seq.{take-append-seam}
 use lib.Dec.{ltb}
 use borrow.Author.Tests.{ltb-true}
-use Rattle.table.specs.Table.{Branch, sound}
-use Rattle.table.specs.View.{Words, branches-of, word-at, view, label-of, known, sound-of}
+use Rattle.table.specs.Table.{Branch}
+use Rattle.table.specs.View.{Words, branches-of, word-at, view, label-of, sound-of}
 use Rattle.table.proofs.Lists.{both}
-use Rattle.table.proofs.Facts.{sound-facts, branches-of-is}
+use Rattle.table.proofs.Facts.{sound-facts, view-sound, branches-of-is}
 use Rattle.table.proofs.Parts.{Legal}
 use Rattle.message.specs.Message.{Message, read, well-formed}
 use Rattle.message.specs.Make.{made, branch-message, branch, exists, names-field, opening, made-numbers, Making, making}
@@ -34,8 +34,7 @@ module _ (t : Words) (s : sound-of t ≡ true) (k : ℕ) (h : Option ℕ) (x : e
       omega (arith, branches-of-is t)
 
   legal : Legal (branch (view t) k)
-  unfolding sound-of
-  legal = branch-legal (view t) (both (known t) (sound (view t)) s .1) k (omega (arith, branch-there, branches-of-is t)) h
+  legal = branch-legal (view t) (view-sound t s) k (omega (arith, branch-there, branches-of-is t)) h
 
   pub formed : well-formed (made (branch (view t) k) h) ≡ true
   formed = made-well-formed (branch (view t) k) legal h

@@ -45,7 +45,7 @@ pub struct Said {
     pub at: usize,
 }
 
-// Whether a state allows a message, where it is that side's turn.
+// Whether a state allows a message, where it is that side's turn. Nothing is counted before it.
 fn hear(t: &Table, position: u8, side: Party, message: &[u8]) -> Heard
     requires { ⌜ InTurn (now t) position side × (well-formed (now message) ≡ true) × (length (now message) ≤ 285) ⌝ }
     ensures { λ r. ⌜ heard-of r ≡ allows (view (now (t .entry))) position (read (now (message .entry))) ⌝ }
@@ -55,7 +55,9 @@ fn hear(t: &Table, position: u8, side: Party, message: &[u8]) -> Heard
         position,
         standing: Standing::Running,
     };
-    let r = monitor::step(t, s, side, message, &mut out);
+    let begun = monitor::fresh(t, 1);
+    let mut counts = begun.counts;
+    let r = monitor::step(t, s, &mut counts, side, message, &mut out);
     let verdict = r.verdict;
     let next = r.state;
     match verdict {

@@ -7,6 +7,7 @@ use borrow.Author.Needs.{needs}
 use Rattle.table.specs.View.{view}
 use Rattle.message.specs.Message.{read}
 use Rattle.message.specs.Judge.{allows}
+use Rattle.monitor.specs.declared.Started.{Started}
 use Rattle.monitor.specs.declared.Verdict.{Verdict}
 use Rattle.report.specs.Playing.{heard-of}
 use Rattle.report.proofs.Hearing.{heard-as, hears}
@@ -15,15 +16,16 @@ use Rattle.report.proofs.play.hear.Tie as tie
 
 -- what the verdict says
 heard : (c : tie.After-out2) {v : Verdict} → c .before .step .result .verdict ≡ v
-    → let s = c .before .before .before .before in
+    → let s = c .before .before .before .before .before .before .before in
     heard-as v (c .before .step .result .state) ≡ allows (view (s .args .t .now)) (s .args .position) (read (s .args .message .now))
 heard c e =
-    let s = c .before .before .before .before in
+    let f = c .before .before .before .before .before in
+    let s = f .before .before in
     let a = s .args in
     let q = s .pre in
     sym (ap (λ (v : Verdict). heard-as v (c .before .step .result .state)) e)
     ∙ hears (s .args .t .now) (a .position) (a .side) (q .0) (a .message .now) (q .1) (replicate 285 0)
-    (omega (arith, q .2, length-replicate {A = ℕ} 285 0)) (c .before .step .result) _ (c .before .step .ensures)
+    (omega (arith, q .2, length-replicate {A = ℕ} 285 0)) (c .before .step .result) _ _ _ (ap (λ (x : Started). x .counts) (f .fresh .ensures)) (c .before .step .ensures)
 
 returns : tie.Need-returns
 unfolding heard-of heard-as
@@ -41,6 +43,7 @@ pub hear-spec : {M : Type 1} → statement M
 hear-spec =
     tie.close
     (tie.spec
+    (λ c κs. search needs)  -- fresh-requires
     (λ c. search needs)  -- slice-aggregate-step
     (λ c. search needs)  -- step-requires
     (λ c. search needs)  -- enum-told
