@@ -1,9 +1,9 @@
 /* Sojimu: verified session monitoring, for C and C++ on x86-64, which here means the System V ABI and ELF.
  *
  * A protocol is a session type, as a device sees it. A gateway reads its text into a table once (sojimu_read), keeps one state of
- * two bytes for each conversation (sojimu_fresh), and asks of every message whether it may pass (sojimu_step), or of all that wait
- * together (sojimu_batch). Before installation it may ask whether a described device fits (sojimu_fit). Link with libsojimu.a, and
- * ask sojimu_matches() once.
+ * 324 bytes for each conversation (sojimu_fresh), and asks of every message whether it may pass (sojimu_step), or of all that wait
+ * together (sojimu_batch). It may ask of a branch with a share whether it is picked far too often or too seldom (sojimu_warning),
+ * and, before installation, whether a described device fits (sojimu_fit). Link with libsojimu.a, and ask sojimu_matches() once.
  *
  * Every function of the library is proved to meet its contract for every input. What is proved ends at the calls below: this
  * header, which is C, is tested.
@@ -28,7 +28,8 @@
  *    6  Is the number within its kind, and high not below low?
  *    7  Is the label new in its choice?
  *    8  Is the token within 32 states, 128 branches, 4 fields in a branch, and 16 choices and `rec`s open around one another?
- *    9  Is the table sound, and a position given with it one of its states?
+ *    9  Is the table sound, its shares included, a position given with it one of its states, and are the counts of a state given
+ *       with it sound: does each choice's k add up to its n, at most 10,000, and is the setting 1 to 1000?
  *   10  Is the standing running?
  *   11  Is the position not an end?
  *   12  Is it this side's turn?
@@ -38,6 +39,9 @@
  *   16  Does the output buffer hold the message?
  *   17  Has the list at least device states times protocol states entries?
  *   18  Does the branch exist, and has it the named field?
+ *   19  Is the share 1 to 1000? (Asked after 6.)
+ *   20  Has the choice no shares, or one for each branch, which add to 1000? (Asked after 8, at its closing brace.)
+ *   21  Is the setting 1 to 1000? (Asked after 9.)
  */
 #ifndef SOJIMU_H
 #define SOJIMU_H
@@ -60,7 +64,7 @@ extern "C" {
 /* ---- constants */
 
 /* This header's version: raised whenever a struct or a call changes. */
-#define SOJIMU_VERSION UINT32_C(3)
+#define SOJIMU_VERSION UINT32_C(4)
 
 /* Limits. A message has at most 285 bytes, a list that question 17 never refuses 1,024 entries, a buffer that holds every report
  * 16,384 bytes. As soon as SOJIMU_FRONT bytes are there, a message announces its length. */
@@ -82,7 +86,7 @@ enum {
     SOJIMU_STACK_REPORT = 57344,
     SOJIMU_STACK_DUAL = 12288,
     SOJIMU_STACK_FIT = 6144,
-    SOJIMU_STACK_TABLE = 1024, /* every other call that takes a table, a step among them */
+    SOJIMU_STACK_TABLE = 1280, /* every other call that takes a table, a step among them */
     SOJIMU_STACK_OTHER = 256   /* every other call */
 };
 
@@ -113,19 +117,24 @@ enum { SOJIMU_FITS = 0, SOJIMU_FAILS = 1, SOJIMU_FIT_REFUSED = 2 };
 /* In the place of a field's number: no field is high, all numbers are low. */
 enum { SOJIMU_ALL_LOW = 255 };
 
+/* In the place of an estimate: nothing has been counted yet. */
+enum { SOJIMU_NO_ESTIMATE = 65535 };
+
 /* ---- what calls take and give */
 
 /* A table: the first `states` sorts, and the first `branches` entries of owner (the state that a branch is of), target (the state
- * that it leads to), fields (their count) and the label's two words (its eight bytes, filled up with 0x00, high byte first).
- * Field f of branch b stands at 4 * b + f: its kind, and the range of its number in offset form. What lies beyond is not looked
- * at, and `reserved` never is; both are 0 in a table that was read. Any word may have any value: question 9 tells a table. */
+ * that it leads to), fields (their count), the label's two words (its eight bytes, filled up with 0x00, high byte first) and the
+ * share in thousandths (0: none). Field f of branch b stands at 4 * b + f: its kind, and the range of its number in offset form.
+ * What lies beyond is not looked at, and `reserved` never is; both are 0 in a table that was read. Any word may have any value:
+ * question 9 tells a table. */
 struct sojimu_table {
     uint32_t states, branches;
     uint32_t sort[32];
     uint32_t owner[128], target[128], fields[128];
     uint32_t label_high[128], label_low[128];
     uint32_t kind[512], low[512], high[512];
-    uint32_t reserved[130];
+    uint32_t share[128];
+    uint32_t reserved[2];
 };
 
 /* What reading a text gives: question 0 and its table, `at` 0; or the question that got a no, the place of its token, and the
@@ -151,10 +160,19 @@ struct sojimu_head {
     uint32_t question, length;
 };
 
-/* A conversation's state. A standing that is none of the three codes counts as not running: question 10 refuses it, and it is
- * kept. */
+/* A conversation's state: where it is, its standing, and its counts. A standing that is none of the three codes counts as not
+ * running: question 10 refuses it, and it is kept. `setting` is z, in hundredths; `n` has for each choice the number of its
+ * messages that were forwarded, and `k` for each branch the number of those that took it, both counted until n is 10,000. What
+ * `n` has at an end, and what both have beyond the table, is not looked at, and is kept. */
 struct sojimu_state {
     uint8_t position, standing;
+    uint16_t setting, n[32], k[128];
+};
+
+/* What a conversation is started with: question 0 and its state; or 9 or 21, and a state of 0 that every call refuses by 9. */
+struct sojimu_started {
+    uint32_t question;
+    struct sojimu_state state;
 };
 
 /* Whose turn it is: question 0 and SOJIMU_DEVICE or SOJIMU_HOST, or 9, 10 or 11 and side 0. */
@@ -190,6 +208,13 @@ struct sojimu_made {
     uint32_t question, length;
 };
 
+/* What is told of a branch: question 0, whether it warns (1) or not (0), SOJIMU_DEVICE or SOJIMU_HOST, which sends at its choice,
+ * and the estimate of its share in thousandths, or SOJIMU_NO_ESTIMATE. Or 9 or 18, and what does not apply is 0, of the estimate
+ * SOJIMU_NO_ESTIMATE. */
+struct sojimu_warning {
+    uint32_t question, warns, sender, estimate;
+};
+
 /* A fit check's answer. fits: `count` is the number of reachable pairs of states. fails: `count` is the number of moves shown,
  * and `high` the field that is high in the last, or SOJIMU_ALL_LOW. refused: `question` is 9 or 17. What does not apply is 0, of
  * `high` SOJIMU_ALL_LOW. */
@@ -204,13 +229,15 @@ SOJIMU_HOLDS(sizeof(struct sojimu_table) == 4 * 2340 && SOJIMU_AT(table, states,
 SOJIMU_HOLDS(SOJIMU_AT(table, sort, 4 * 2) && SOJIMU_AT(table, owner, 4 * 34) && SOJIMU_AT(table, target, 4 * 162));
 SOJIMU_HOLDS(SOJIMU_AT(table, fields, 4 * 290) && SOJIMU_AT(table, label_high, 4 * 418) && SOJIMU_AT(table, label_low, 4 * 546));
 SOJIMU_HOLDS(SOJIMU_AT(table, kind, 4 * 674) && SOJIMU_AT(table, low, 4 * 1186) && SOJIMU_AT(table, high, 4 * 1698));
-SOJIMU_HOLDS(SOJIMU_AT(table, reserved, 4 * 2210));
+SOJIMU_HOLDS(SOJIMU_AT(table, share, 4 * 2210) && SOJIMU_AT(table, reserved, 4 * 2338));
 SOJIMU_HOLDS(sizeof(struct sojimu_reading) == 9368 && SOJIMU_AT(reading, question, 0) && SOJIMU_AT(reading, at, 4));
 SOJIMU_HOLDS(SOJIMU_AT(reading, table, 8));
 SOJIMU_HOLDS(sizeof(struct sojimu_told) == 8 && SOJIMU_AT(told, question, 0) && SOJIMU_AT(told, at, 4));
 SOJIMU_HOLDS(sizeof(struct sojimu_turned) == 9364 && SOJIMU_AT(turned, question, 0) && SOJIMU_AT(turned, table, 4));
 SOJIMU_HOLDS(sizeof(struct sojimu_head) == 8 && SOJIMU_AT(head, question, 0) && SOJIMU_AT(head, length, 4));
-SOJIMU_HOLDS(sizeof(struct sojimu_state) == 2 && SOJIMU_AT(state, position, 0) && SOJIMU_AT(state, standing, 1));
+SOJIMU_HOLDS(sizeof(struct sojimu_state) == 324 && SOJIMU_AT(state, position, 0) && SOJIMU_AT(state, standing, 1));
+SOJIMU_HOLDS(SOJIMU_AT(state, setting, 2) && SOJIMU_AT(state, n, 4) && SOJIMU_AT(state, k, 68));
+SOJIMU_HOLDS(sizeof(struct sojimu_started) == 328 && SOJIMU_AT(started, question, 0) && SOJIMU_AT(started, state, 4));
 SOJIMU_HOLDS(sizeof(struct sojimu_turn) == 8 && SOJIMU_AT(turn, question, 0) && SOJIMU_AT(turn, side, 4));
 SOJIMU_HOLDS(sizeof(struct sojimu_verdict) == 5 && SOJIMU_AT(verdict, outcome, 0) && SOJIMU_AT(verdict, question, 1));
 SOJIMU_HOLDS(SOJIMU_AT(verdict, party, 2) && SOJIMU_AT(verdict, reason, 3) && SOJIMU_AT(verdict, field, 4));
@@ -219,14 +246,17 @@ SOJIMU_HOLDS(SOJIMU_AT(batch, written_to_device, 16) && SOJIMU_AT(batch, written
 SOJIMU_HOLDS(SOJIMU_AT(batch, reserved, 37));
 SOJIMU_HOLDS(sizeof(struct sojimu_due) == 8 && SOJIMU_AT(due, side, 0) && SOJIMU_AT(due, length, 4));
 SOJIMU_HOLDS(sizeof(struct sojimu_made) == 8 && SOJIMU_AT(made, question, 0) && SOJIMU_AT(made, length, 4));
+SOJIMU_HOLDS(sizeof(struct sojimu_warning) == 16 && SOJIMU_AT(warning, question, 0) && SOJIMU_AT(warning, warns, 4));
+SOJIMU_HOLDS(SOJIMU_AT(warning, sender, 8) && SOJIMU_AT(warning, estimate, 12));
 SOJIMU_HOLDS(sizeof(struct sojimu_fit) == 16 && SOJIMU_AT(fit, outcome, 0) && SOJIMU_AT(fit, question, 4));
 SOJIMU_HOLDS(SOJIMU_AT(fit, count, 8) && SOJIMU_AT(fit, high, 12));
 #undef SOJIMU_AT
 #undef SOJIMU_HOLDS
 
-/* ---- the library's calls over slices
+/* ---- the library's calls over slices and states
  *
- * These alone take no NULL. Each has an inline function without `raw` below, where it is explained. */
+ * These alone take no NULL. A state is lent as its two bytes and its 161 counts. Each has an inline function without `raw` below,
+ * where it is explained. */
 
 struct sojimu_told sojimu_raw_read(const uint8_t *text, size_t length, struct sojimu_table *table);
 size_t sojimu_raw_report(const uint8_t *protocol, size_t protocol_length, const uint8_t *device, size_t device_length,
@@ -236,13 +266,16 @@ bool sojimu_raw_broken(const uint8_t *bytes, size_t length);
 uint32_t sojimu_raw_refusal(const uint8_t *bytes, size_t length);
 bool sojimu_raw_has_label(const uint8_t *bytes, size_t length, uint64_t label);
 struct sojimu_made sojimu_raw_make(const struct sojimu_table *table, uint32_t branch, uint32_t named, uint8_t *out, size_t room);
-struct sojimu_verdict sojimu_raw_step(const struct sojimu_table *table, struct sojimu_state *state, uint32_t side,
+struct sojimu_turn sojimu_raw_turn(const struct sojimu_table *table, const uint8_t *state, const uint16_t *counts);
+struct sojimu_verdict sojimu_raw_step(const struct sojimu_table *table, uint8_t *state, uint16_t *counts, uint32_t side,
                                       const uint8_t *message, size_t length, uint8_t *out, size_t room);
-struct sojimu_batch sojimu_raw_batch(const struct sojimu_table *table, struct sojimu_state *state, const uint8_t *device,
+struct sojimu_batch sojimu_raw_batch(const struct sojimu_table *table, uint8_t *state, uint16_t *counts, const uint8_t *device,
                                      size_t device_length, const uint8_t *host, size_t host_length, uint8_t *to_device,
                                      size_t device_room, uint8_t *to_host, size_t host_room);
-struct sojimu_due sojimu_raw_due(const struct sojimu_table *table, struct sojimu_state state, const uint8_t *device,
-                                 size_t device_length, const uint8_t *host, size_t host_length);
+struct sojimu_due sojimu_raw_due(const struct sojimu_table *table, const uint8_t *state, const uint16_t *counts,
+                                 const uint8_t *device, size_t device_length, const uint8_t *host, size_t host_length);
+struct sojimu_warning sojimu_raw_warning(const struct sojimu_table *table, const uint8_t *state, const uint16_t *counts,
+                                         uint32_t branch);
 struct sojimu_fit sojimu_raw_fit(const struct sojimu_table *device, const struct sojimu_table *protocol, uint16_t *list,
                                  size_t room);
 
@@ -251,6 +284,17 @@ static inline uint8_t *sojimu_lent(const void *given, size_t length)
 {
     static const uint64_t nothing = 0;
     return (uint8_t *)(uintptr_t)(length == 0 ? &nothing : given);
+}
+
+/* A state's two bytes, and its counts. */
+static inline uint8_t *sojimu_place(const struct sojimu_state *state)
+{
+    return (uint8_t *)(uintptr_t)state;
+}
+
+static inline uint16_t *sojimu_counts(const struct sojimu_state *state)
+{
+    return (uint16_t *)((uintptr_t)state + offsetof(struct sojimu_state, setting));
 }
 
 /* ---- the version */
@@ -266,7 +310,7 @@ static inline bool sojimu_matches(void)
 
 /* ---- texts and tables */
 
-/* Reads a protocol text, which need not end in 0x00. Asks 1, then of each token from the left 2 to 8. */
+/* Reads a protocol text, which need not end in 0x00. Asks 1, then of each token from the left 2 to 6, 19, 7, 8 and 20. */
 static inline struct sojimu_reading sojimu_read(const uint8_t *text, size_t length)
 {
     struct sojimu_reading reading;
@@ -416,10 +460,10 @@ static inline struct sojimu_made sojimu_encode(uint64_t label, const struct soji
 
 /* ---- the monitor */
 
-/* The state of a conversation that begins: position 0, running. */
-struct sojimu_state sojimu_fresh(void);
+/* A conversation begins: position 0, running, nothing counted, with the setting of its warnings in hundredths. Asks 9, 21. */
+struct sojimu_started sojimu_fresh(const struct sojimu_table *table, uint32_t setting);
 
-/* Four of the functions below have the names of the structs that they return, as `stat` has. C++ allows that, and g++ warns of
+/* Five of the functions below have the names of the structs that they return, as `stat` has. C++ allows that, and g++ warns of
  * it. */
 #if defined(__cplusplus) && defined(__GNUC__)
 #pragma GCC diagnostic push
@@ -427,16 +471,21 @@ struct sojimu_state sojimu_fresh(void);
 #endif
 
 /* Whose turn it is. Asks 9, 10, 11. */
-struct sojimu_turn sojimu_turn(const struct sojimu_table *table, struct sojimu_state state);
+static inline struct sojimu_turn sojimu_turn(const struct sojimu_table *table, const struct sojimu_state *state)
+{
+    return sojimu_raw_turn(table, sojimu_place(state), sojimu_counts(state));
+}
 
 /* One step. `side` says who sends the message; any number but SOJIMU_DEVICE and SOJIMU_HOST is no side's turn. Asks 9, 10, 11,
  * 12, 13, 14, 15, 16; on a refusal state and `out` are unchanged. Else the message is judged against the position's branches. If
- * one allows it, it is forwarded: its bytes open `out`, the rest of which is unchanged, and the position moves on. If none does,
- * the sender is blamed, for ever: the standing says so, and position and `out` are unchanged. */
+ * one allows it, it is forwarded: its bytes open `out`, the rest of which is unchanged, the position moves on, and n of its choice
+ * and k of its branch rise by one, unless n is 10,000. If none does, the sender is blamed, for ever: the standing says so, and
+ * position, counts and `out` are unchanged. */
 static inline struct sojimu_verdict sojimu_step(const struct sojimu_table *table, struct sojimu_state *state, uint32_t side,
                                                 const uint8_t *message, size_t length, uint8_t *out, size_t room)
 {
-    return sojimu_raw_step(table, state, side, sojimu_lent(message, length), length, sojimu_lent(out, room), room);
+    return sojimu_raw_step(table, sojimu_place(state), sojimu_counts(state), side, sojimu_lent(message, length), length,
+                           sojimu_lent(out, room), room);
 }
 
 /* A batch: takes the due messages of the bytes that wait on either side, in turn, each by a step, until none is due, a step refuses
@@ -448,19 +497,29 @@ static inline struct sojimu_batch sojimu_batch(const struct sojimu_table *table,
                                                size_t device_length, const uint8_t *host, size_t host_length,
                                                uint8_t *to_device, size_t device_room, uint8_t *to_host, size_t host_room)
 {
-    return sojimu_raw_batch(table, state, sojimu_lent(device, device_length), device_length, sojimu_lent(host, host_length),
-                            host_length, sojimu_lent(to_device, device_room), device_room, sojimu_lent(to_host, host_room),
-                            host_room);
+    return sojimu_raw_batch(table, sojimu_place(state), sojimu_counts(state), sojimu_lent(device, device_length), device_length,
+                            sojimu_lent(host, host_length), host_length, sojimu_lent(to_device, device_room), device_room,
+                            sojimu_lent(to_host, host_room), host_room);
 }
 
 /* The due message, from the bytes that wait on either side: the first message of the side whose turn it is. Length 0 when 13 or
  * 14 would refuse or the message is not all there; side SOJIMU_DEVICE and length 0 when 9, 10 or 11 would, of which sojimu_turn
  * tells the number. */
-static inline struct sojimu_due sojimu_due(const struct sojimu_table *table, struct sojimu_state state, const uint8_t *device,
-                                           size_t device_length, const uint8_t *host, size_t host_length)
+static inline struct sojimu_due sojimu_due(const struct sojimu_table *table, const struct sojimu_state *state,
+                                           const uint8_t *device, size_t device_length, const uint8_t *host, size_t host_length)
 {
-    return sojimu_raw_due(table, state, sojimu_lent(device, device_length), device_length, sojimu_lent(host, host_length),
-                          host_length);
+    return sojimu_raw_due(table, sojimu_place(state), sojimu_counts(state), sojimu_lent(device, device_length), device_length,
+                          sojimu_lent(host, host_length), host_length);
+}
+
+/* What a tender is shown of a branch, by its number in the table: whether it is picked far too often or too seldom for its share,
+ * who picks, and the estimate of its share. With the share w, the setting z and the counts n and k it warns exactly while
+ * 10,000 * (1,000k - wn)^2 is greater than z^2 * w * (1,000 - w) * n; a branch without a share never does. The estimate is 1,000k / n
+ * to the nearest whole, halves up. Asks 9, 18; whether somebody was blamed is not asked. */
+static inline struct sojimu_warning sojimu_warning(const struct sojimu_table *table, const struct sojimu_state *state,
+                                                   uint32_t branch)
+{
+    return sojimu_raw_warning(table, sojimu_place(state), sojimu_counts(state), branch);
 }
 
 /* Whether a described device fits a protocol: no list of moves ends with the device blamed or the two stuck. Asks 9 of the

@@ -66,7 +66,7 @@ static bool gives(struct sojimu_state s, const size_t counts[4], const uint8_t l
 static const uint8_t NONE_DUE[5] = {SOJIMU_NONE_DUE, 0, 0, 0, 0}, FORWARDED[5] = {SOJIMU_FORWARDED, 0, 0, 0, 0};
 static const uint8_t FULL[5] = {SOJIMU_REFUSED, 16, 0, 0, 0};
 
-static const struct sojimu_state START = {0, SOJIMU_RUNNING}, ENDED = {2, SOJIMU_RUNNING};
+static const struct sojimu_state START = STATE(0, SOJIMU_RUNNING), ENDED = STATE(2, SOJIMU_RUNNING);
 
 /* Nothing is due, at first or after some. An Ask has 14 bytes, an Ok and a Quit 9. */
 static void none_due(void)
@@ -155,7 +155,7 @@ static void refused(void)
     say(&host, "Ok");
     for (unsigned position = 0; position < 256; position = 2 * position + 1) {
         for (unsigned standing = 0; standing < 256; standing++) {
-            const struct sojimu_state s = {(uint8_t)position, (uint8_t)standing};
+            const struct sojimu_state s = STATE((uint8_t)position, (uint8_t)standing);
             const uint8_t question = position > 2 ? 9 : 10;
             if (position > 2 || standing != SOJIMU_RUNNING) {
                 CHECK(gives(s, COUNTS(0, 0, 0, 0), LAST(SOJIMU_REFUSED, question, 0, 0, 0), s.position, s.standing));
@@ -169,7 +169,7 @@ static struct sojimu_batch singly(struct sojimu_state *s, uint8_t *to_device, ui
 {
     struct sojimu_batch b = {0, 0, 0, 0, {SOJIMU_NONE_DUE, 0, 0, 0, 0}, {0, 0, 0}};
     do {
-        const struct sojimu_due due = sojimu_due(&p, *s, device.waiting + b.used_device, device.length - b.used_device,
+        const struct sojimu_due due = sojimu_due(&p, s, device.waiting + b.used_device, device.length - b.used_device,
                                                  host.waiting + b.used_host, host.length - b.used_host);
         const bool is_device = due.side == SOJIMU_DEVICE;
         size_t *const used = is_device ? &b.used_device : &b.used_host;

@@ -173,17 +173,17 @@ static void examples(void)
     const struct sojimu_table p = table_of(P);
     const uint8_t outside[5] = {SOJIMU_BLAMED, 0, SOJIMU_DEVICE, SOJIMU_OUT_OF_RANGE, 0};
     uint8_t m[16];
-    struct sojimu_state s = sojimu_fresh();
+    struct sojimu_state s = fresh(&p);
     CHECK(s.position == 0 && s.standing == SOJIMU_RUNNING);
     CHECK(steps_to(&p, &s, SOJIMU_DEVICE, ASK_100, sizeof ASK_100, ROOM, FORWARD, 1, SOJIMU_RUNNING));
 
-    s = sojimu_fresh();
+    s = fresh(&p);
     size_t n = with_number(m, "Ask", SOJIMU_KIND_INT, 101);
     CHECK(steps_to(&p, &s, SOJIMU_DEVICE, m, n, ROOM, outside, 0, SOJIMU_DEVICE_BLAMED));
     CHECK(refuses(&p, s, SOJIMU_DEVICE, ASK_100, sizeof ASK_100, ROOM, 10));
 
     n = plain(m, "Ok");
-    CHECK(refuses(&p, sojimu_fresh(), SOJIMU_HOST, m, n, ROOM, 12));
+    CHECK(refuses(&p, fresh(&p), SOJIMU_HOST, m, n, ROOM, 12));
 }
 
 static void blames(void)
@@ -194,16 +194,16 @@ static void blames(void)
     const uint8_t kinds[5] = {SOJIMU_BLAMED, 0, SOJIMU_DEVICE, SOJIMU_OTHER_KINDS, 0};
     const uint8_t second[5] = {SOJIMU_BLAMED, 0, SOJIMU_DEVICE, SOJIMU_OUT_OF_RANGE, 1};
     uint8_t m[32];
-    struct sojimu_state s = {1, SOJIMU_RUNNING};
+    struct sojimu_state s = STATE(1, SOJIMU_RUNNING);
     size_t n = plain(m, "No");
     CHECK(steps_to(&p, &s, SOJIMU_HOST, m, n, ROOM, no_label, 1, SOJIMU_HOST_BLAMED));
     CHECK(refuses(&p, s, SOJIMU_HOST, m, n, ROOM, 10));
 
-    s = sojimu_fresh();
+    s = fresh(&p);
     n = with_number(m, "Ask", SOJIMU_KIND_FLAG, 1);
     CHECK(steps_to(&p, &s, SOJIMU_DEVICE, m, n, ROOM, kinds, 0, SOJIMU_DEVICE_BLAMED));
 
-    s = sojimu_fresh();
+    s = fresh(&two);
     mark();
     const struct sojimu_made made = sojimu_make(&two, 0, 0, out, ROOM);
     memcpy(m, out, made.length);
@@ -215,8 +215,8 @@ static void blames(void)
 static void refusals(void)
 {
     struct sojimu_table p = table_of(P);
-    const struct sojimu_state start = sojimu_fresh(), beyond = {3, SOJIMU_RUNNING}, ended = {2, SOJIMU_RUNNING};
-    const struct sojimu_state unknown = {0, 3}, largest = {1, 255}, ended_blamed = {2, SOJIMU_HOST_BLAMED};
+    const struct sojimu_state start = fresh(&p), beyond = STATE(3, SOJIMU_RUNNING), ended = STATE(2, SOJIMU_RUNNING);
+    const struct sojimu_state unknown = STATE(0, 3), largest = STATE(1, 255), ended_blamed = STATE(2, SOJIMU_HOST_BLAMED);
     uint8_t m[32];
     size_t n = sizeof ASK_100;
     memset(m, 0, sizeof m);
@@ -233,7 +233,7 @@ static void refusals(void)
     CHECK(refuses(&p, ended, 255, m, n, ROOM, 11));
     CHECK(refuses(&p, start, SOJIMU_HOST, m, n, ROOM, 12));
     for (uint32_t side = 2; side < 300; side++) {
-        const struct sojimu_state receiving = {1, SOJIMU_RUNNING};
+        const struct sojimu_state receiving = STATE(1, SOJIMU_RUNNING);
         CHECK(refuses(&p, start, side, m, n, ROOM, 12));
         CHECK(refuses(&p, receiving, side, m, n, ROOM, 12));
     }
@@ -257,19 +257,19 @@ static bool turn_is(struct sojimu_turn t, uint32_t question, uint32_t side)
 static void conversation(void)
 {
     const struct sojimu_table p = table_of(P);
-    struct sojimu_state s = sojimu_fresh();
+    struct sojimu_state s = fresh(&p);
     uint8_t ok[9], quit[9], ask[14];
     plain(ok, "Ok");
     plain(quit, "Quit");
     for (int32_t i = 0; i < 1000; i++) {
         const size_t n = with_number(ask, "Ask", SOJIMU_KIND_INT, i % 101);
-        CHECK(turn_is(sojimu_turn(&p, s), 0, SOJIMU_DEVICE));
+        CHECK(turn_is(sojimu_turn(&p, &s), 0, SOJIMU_DEVICE));
         CHECK(steps_to(&p, &s, SOJIMU_DEVICE, ask, n, n, FORWARD, 1, SOJIMU_RUNNING));
-        CHECK(turn_is(sojimu_turn(&p, s), 0, SOJIMU_HOST));
+        CHECK(turn_is(sojimu_turn(&p, &s), 0, SOJIMU_HOST));
         CHECK(steps_to(&p, &s, SOJIMU_HOST, ok, sizeof ok, ROOM, FORWARD, 0, SOJIMU_RUNNING));
     }
     CHECK(steps_to(&p, &s, SOJIMU_DEVICE, quit, sizeof quit, ROOM, FORWARD, 2, SOJIMU_RUNNING));
-    CHECK(turn_is(sojimu_turn(&p, s), 11, 0));
+    CHECK(turn_is(sojimu_turn(&p, &s), 11, 0));
     CHECK(refuses(&p, s, SOJIMU_DEVICE, quit, sizeof quit, ROOM, 11));
 }
 
@@ -281,32 +281,32 @@ static bool due_is(struct sojimu_due d, uint32_t side, size_t length)
 static void due(void)
 {
     struct sojimu_table p = table_of(P);
-    const struct sojimu_state sends = sojimu_fresh(), receives = {1, SOJIMU_RUNNING}, ended = {2, SOJIMU_RUNNING};
-    const struct sojimu_state blamed = {0, SOJIMU_HOST_BLAMED}, unknown = {1, 9}, beyond = {3, SOJIMU_RUNNING};
+    const struct sojimu_state sends = fresh(&p), receives = STATE(1, SOJIMU_RUNNING), ended = STATE(2, SOJIMU_RUNNING);
+    const struct sojimu_state blamed = STATE(0, SOJIMU_HOST_BLAMED), unknown = STATE(1, 9), beyond = STATE(3, SOJIMU_RUNNING);
     uint8_t device[23], host[10];
     const size_t n = with_number(device, "Ask", SOJIMU_KIND_INT, 500);
     plain(device + n, "Quit");
     plain(host, "Ok");
     host[9] = 'X';
-    CHECK(due_is(sojimu_due(&p, sends, device, sizeof device, host, sizeof host), SOJIMU_DEVICE, n));
-    CHECK(due_is(sojimu_due(&p, sends, device + n, 9, host, sizeof host), SOJIMU_DEVICE, 9));
-    CHECK(due_is(sojimu_due(&p, receives, device, sizeof device, host, sizeof host), SOJIMU_HOST, 9));
-    CHECK(due_is(sojimu_due(&p, receives, NULL, 0, host, 9), SOJIMU_HOST, 9));
-    CHECK(due_is(sojimu_due(&p, sends, device, n - 1, host, sizeof host), SOJIMU_DEVICE, 0));
-    CHECK(due_is(sojimu_due(&p, receives, device, n, host, 8), SOJIMU_HOST, 0));
-    CHECK(due_is(sojimu_due(&p, sends, NULL, 0, NULL, 0), SOJIMU_DEVICE, 0));
-    CHECK(due_is(sojimu_due(&p, receives, NULL, 0, NULL, 0), SOJIMU_HOST, 0));
-    CHECK(due_is(sojimu_due(&p, ended, device, n, host, 9), SOJIMU_DEVICE, 0));
-    CHECK(due_is(sojimu_due(&p, blamed, device, n, host, 9), SOJIMU_DEVICE, 0));
-    CHECK(due_is(sojimu_due(&p, unknown, device, n, host, 9), SOJIMU_DEVICE, 0));
-    CHECK(due_is(sojimu_due(&p, beyond, device, n, host, 9), SOJIMU_DEVICE, 0));
-    CHECK(turn_is(sojimu_turn(&p, beyond), 9, 0) && turn_is(sojimu_turn(&p, ended), 11, 0));
-    CHECK(turn_is(sojimu_turn(&p, blamed), 10, 0) && turn_is(sojimu_turn(&p, unknown), 10, 0));
+    CHECK(due_is(sojimu_due(&p, &sends, device, sizeof device, host, sizeof host), SOJIMU_DEVICE, n));
+    CHECK(due_is(sojimu_due(&p, &sends, device + n, 9, host, sizeof host), SOJIMU_DEVICE, 9));
+    CHECK(due_is(sojimu_due(&p, &receives, device, sizeof device, host, sizeof host), SOJIMU_HOST, 9));
+    CHECK(due_is(sojimu_due(&p, &receives, NULL, 0, host, 9), SOJIMU_HOST, 9));
+    CHECK(due_is(sojimu_due(&p, &sends, device, n - 1, host, sizeof host), SOJIMU_DEVICE, 0));
+    CHECK(due_is(sojimu_due(&p, &receives, device, n, host, 8), SOJIMU_HOST, 0));
+    CHECK(due_is(sojimu_due(&p, &sends, NULL, 0, NULL, 0), SOJIMU_DEVICE, 0));
+    CHECK(due_is(sojimu_due(&p, &receives, NULL, 0, NULL, 0), SOJIMU_HOST, 0));
+    CHECK(due_is(sojimu_due(&p, &ended, device, n, host, 9), SOJIMU_DEVICE, 0));
+    CHECK(due_is(sojimu_due(&p, &blamed, device, n, host, 9), SOJIMU_DEVICE, 0));
+    CHECK(due_is(sojimu_due(&p, &unknown, device, n, host, 9), SOJIMU_DEVICE, 0));
+    CHECK(due_is(sojimu_due(&p, &beyond, device, n, host, 9), SOJIMU_DEVICE, 0));
+    CHECK(turn_is(sojimu_turn(&p, &beyond), 9, 0) && turn_is(sojimu_turn(&p, &ended), 11, 0));
+    CHECK(turn_is(sojimu_turn(&p, &blamed), 10, 0) && turn_is(sojimu_turn(&p, &unknown), 10, 0));
     device[9] = 3;
-    CHECK(due_is(sojimu_due(&p, sends, device, n, host, 9), SOJIMU_DEVICE, 0));
+    CHECK(due_is(sojimu_due(&p, &sends, device, n, host, 9), SOJIMU_DEVICE, 0));
     p.states = 33;
-    CHECK(turn_is(sojimu_turn(&p, ended), 9, 0) && turn_is(sojimu_turn(&p, blamed), 9, 0));
-    CHECK(due_is(sojimu_due(&p, receives, device, n, host, 9), SOJIMU_DEVICE, 0));
+    CHECK(turn_is(sojimu_turn(&p, &ended), 9, 0) && turn_is(sojimu_turn(&p, &blamed), 9, 0));
+    CHECK(due_is(sojimu_due(&p, &receives, device, n, host, 9), SOJIMU_DEVICE, 0));
 }
 
 /* ---- the fit check */
@@ -319,11 +319,11 @@ static bool fit_is(struct sojimu_fit f, uint32_t outcome, uint32_t question, uin
 /* Plays the moves shown against the protocol's monitor, and gives the last verdict. The others have to be forwarded. */
 static struct sojimu_verdict play(const struct sojimu_table *device, const struct sojimu_table *protocol, struct sojimu_fit f)
 {
-    struct sojimu_state s = sojimu_fresh();
+    struct sojimu_state s = fresh(protocol);
     struct sojimu_verdict v = {SOJIMU_FORWARDED, 0, 0, 0, 0};
     uint8_t m[SOJIMU_MESSAGE];
     for (uint32_t i = 0; i < f.count; i++) {
-        const uint32_t side = sojimu_turn(protocol, s).side;
+        const uint32_t side = sojimu_turn(protocol, &s).side;
         const uint32_t named = i + 1 == f.count ? f.high : SOJIMU_ALL_LOW;
         const struct sojimu_made made = sojimu_make(side == SOJIMU_DEVICE ? device : protocol, list[i], named, m, sizeof m);
         CHECK(v.outcome == SOJIMU_FORWARDED && made.question == 0);

@@ -106,6 +106,26 @@ static inline size_t largest_text(char *text)
     return n + (size_t)sprintf(text + n, "}");
 }
 
+/* ---- states */
+
+/* The setting of the tests, in hundredths, and a state with nothing counted. */
+enum { SETTING = 200 };
+
+#define STATE(position, standing) {position, standing, SETTING, {0}, {0}}
+
+/* A conversation that begins over a table. */
+static inline struct sojimu_state fresh(const struct sojimu_table *table)
+{
+    const struct sojimu_started started = sojimu_fresh(table, SETTING);
+    CHECK(started.question == 0);
+    return started.state;
+}
+
+static inline bool same_states(const struct sojimu_state *a, const struct sojimu_state *b)
+{
+    return memcmp(a, b, sizeof *a) == 0;
+}
+
 /* ---- messages */
 
 static inline void put_number(uint8_t *bytes, int32_t value)

@@ -5,7 +5,7 @@
 
 static struct sojimu_table p, broken_table;
 
-static const struct sojimu_state START = {0, SOJIMU_RUNNING};
+static const struct sojimu_state START = STATE(0, SOJIMU_RUNNING);
 
 static const uint32_t WIDE[] = {256, 257, 65535, 65536, 65537, 0x7FFFFFFF, 0x80000000, 0xFFFFFFFF};
 
@@ -16,7 +16,8 @@ enum { WIDES = sizeof WIDE / sizeof WIDE[0] };
 /* The calls whose struct is given back in memory, with the place for it, as the ABI hands it over. */
 void dual_into(void *place, const struct sojimu_table *table) __asm__("sojimu_dual");
 void empty_into(void *place) __asm__("sojimu_empty");
-void batch_into(void *place, const struct sojimu_table *table, struct sojimu_state *state, const uint8_t *device,
+void fresh_into(void *place, const struct sojimu_table *table, uint32_t setting) __asm__("sojimu_fresh");
+void batch_into(void *place, const struct sojimu_table *table, uint8_t *state, uint16_t *counts, const uint8_t *device,
                 size_t device_length, const uint8_t *host, size_t host_length, uint8_t *to_device, size_t device_room,
                 uint8_t *to_host, size_t host_room) __asm__("sojimu_raw_batch");
 
@@ -74,7 +75,17 @@ static void batch_of(void *place, const struct sojimu_table *table, const uint8_
 {
     struct sojimu_state s = START;
     uint8_t to_device[1];
-    batch_into(place, table, &s, message, length, message, length, to_device, 0, out, room);
+    batch_into(place, table, sojimu_place(&s), sojimu_counts(&s), message, length, message, length, to_device, 0, out, room);
+}
+
+static void give_fresh(void *place)
+{
+    fresh_into(place, &p, 1000);
+}
+
+static void give_fresh_refused(void *place)
+{
+    fresh_into(place, &p, 1001);
 }
 
 static void give_batch(void *place)
@@ -113,16 +124,17 @@ static void give_batch_refused(void *place)
 
 GIVES(give_front, sojimu_head, sojimu_front(ASK_100, sizeof ASK_100))
 GIVES(give_front_refused, sojimu_head, sojimu_front(ASK_100, 3))
-GIVES(give_fresh, sojimu_state, sojimu_fresh())
 GIVES(give_made, sojimu_made, sojimu_make(&p, 0, 0, out, ROOM))
 GIVES(give_made_refused, sojimu_made, sojimu_make(&p, 7, 0, out, ROOM))
 GIVES(give_forwarded, sojimu_verdict, sojimu_step(&p, &s, SOJIMU_DEVICE, ASK_100, sizeof ASK_100, out, ROOM))
 GIVES(give_refused, sojimu_verdict, sojimu_step(&p, &s, SOJIMU_HOST, ASK_100, sizeof ASK_100, out, ROOM))
 GIVES(give_blamed, sojimu_verdict, sojimu_step(&p, &s, SOJIMU_DEVICE, (const uint8_t *)"No\0\0\0\0\0\0", 9, out, ROOM))
-GIVES(give_turn, sojimu_turn, sojimu_turn(&p, s))
-GIVES(give_turn_refused, sojimu_turn, sojimu_turn(&empty, s))
-GIVES(give_due, sojimu_due, sojimu_due(&p, s, ASK_100, sizeof ASK_100, NULL, 0))
-GIVES(give_due_none, sojimu_due, sojimu_due(&empty, s, ASK_100, sizeof ASK_100, NULL, 0))
+GIVES(give_warning, sojimu_warning, sojimu_warning(&p, &s, 2))
+GIVES(give_warning_refused, sojimu_warning, sojimu_warning(&p, &s, 3))
+GIVES(give_turn, sojimu_turn, sojimu_turn(&p, &s))
+GIVES(give_turn_refused, sojimu_turn, sojimu_turn(&empty, &s))
+GIVES(give_due, sojimu_due, sojimu_due(&p, &s, ASK_100, sizeof ASK_100, NULL, 0))
+GIVES(give_due_none, sojimu_due, sojimu_due(&empty, &s, ASK_100, sizeof ASK_100, NULL, 0))
 GIVES(give_fits, sojimu_fit, sojimu_fit(&p, &p, list, SOJIMU_LIST))
 GIVES(give_fit_refused, sojimu_fit, sojimu_fit(&p, &p, list, 8))
 GIVES(give_fails, sojimu_fit, sojimu_fit(&broken_table, &p, list, SOJIMU_LIST))
@@ -137,7 +149,10 @@ static void bytes_determined(void)
     CHECK(determined(empty_into, sizeof(struct sojimu_table)));
     CHECK(determined(give_front, sizeof(struct sojimu_head)));
     CHECK(determined(give_front_refused, sizeof(struct sojimu_head)));
-    CHECK(determined(give_fresh, sizeof(struct sojimu_state)));
+    CHECK(determined(give_fresh, sizeof(struct sojimu_started)));
+    CHECK(determined(give_fresh_refused, sizeof(struct sojimu_started)));
+    CHECK(determined(give_warning, sizeof(struct sojimu_warning)));
+    CHECK(determined(give_warning_refused, sizeof(struct sojimu_warning)));
     CHECK(determined(give_made, sizeof(struct sojimu_made)));
     CHECK(determined(give_made_refused, sizeof(struct sojimu_made)));
     CHECK(determined(give_forwarded, sizeof(struct sojimu_verdict)));
@@ -181,10 +196,10 @@ static void nothing(void)
     CHECK(sojimu_step(&p, &s, SOJIMU_DEVICE, ASK_100, sizeof ASK_100, NULL, 0).question == 16);
     CHECK(sojimu_batch(&p, &s, NULL, 0, NULL, 0, NULL, 0, NULL, 0).last.outcome == SOJIMU_NONE_DUE);
     CHECK(sojimu_batch(&p, &s, ASK_100, sizeof ASK_100, NULL, 0, NULL, 0, NULL, 0).last.question == 16);
-    CHECK(s.position == 0 && s.standing == SOJIMU_RUNNING);
-    CHECK(sojimu_due(&p, s, NULL, 0, NULL, 0).length == 0);
-    CHECK(sojimu_due(&p, s, ASK_100, sizeof ASK_100, NULL, 0).length == sizeof ASK_100);
-    CHECK(sojimu_due(&p, s, NULL, 0, ASK_100, sizeof ASK_100).length == 0);
+    CHECK(same_states(&s, &START));
+    CHECK(sojimu_due(&p, &s, NULL, 0, NULL, 0).length == 0);
+    CHECK(sojimu_due(&p, &s, ASK_100, sizeof ASK_100, NULL, 0).length == sizeof ASK_100);
+    CHECK(sojimu_due(&p, &s, NULL, 0, ASK_100, sizeof ASK_100).length == 0);
     CHECK(sojimu_fit(&p, &p, NULL, 0).question == 17);
     CHECK(sojimu_encode(sojimu_label("Ok"), NULL, 0, NULL, 0).question == 16);
 }
@@ -199,10 +214,10 @@ static bool unmade(struct sojimu_made made, uint32_t question)
 /* A step by a number that is no side's is refused by this question, and changes nothing. */
 static bool no_side(uint32_t side, uint8_t position, uint8_t standing, uint32_t question)
 {
-    struct sojimu_state s = {position, standing};
+    const struct sojimu_state before = STATE(position, standing);
+    struct sojimu_state s = before;
     const struct sojimu_verdict v = sojimu_step(&p, &s, side, ASK_100, sizeof ASK_100, out, ROOM);
-    return v.outcome == SOJIMU_REFUSED && v.question == question && s.position == position && s.standing == standing &&
-           opens(NULL, 0);
+    return v.outcome == SOJIMU_REFUSED && v.question == question && same_states(&s, &before) && opens(NULL, 0);
 }
 
 static void wide_numbers(void)
@@ -218,6 +233,8 @@ static void wide_numbers(void)
         CHECK(no_side(n, 0, SOJIMU_RUNNING, 12) && no_side(n, 1, SOJIMU_RUNNING, 12));
         CHECK(no_side(n, 2, SOJIMU_RUNNING, 11) && no_side(n, 0, SOJIMU_HOST_BLAMED, 10) && no_side(n, 3, SOJIMU_RUNNING, 9));
         CHECK(!sojimu_sound_at(&p, n));
+        CHECK(sojimu_warning(&p, &START, n).question == 18 && sojimu_warning(&empty, &START, n).question == 9);
+        CHECK(sojimu_fresh(&p, n).question == (n == 256 || n == 257 ? 0 : 21) && sojimu_fresh(&empty, n).question == 9);
         CHECK(!sojimu_range_legal(n, SOJIMU_ORIGIN, SOJIMU_ORIGIN));
     }
     for (uint32_t field = 1; field < 600; field++) {
@@ -239,11 +256,13 @@ static bool all_nine(const struct sojimu_table *t)
     const struct sojimu_verdict v = sojimu_step(t, &s, SOJIMU_DEVICE, ASK_100, sizeof ASK_100, out, ROOM);
     const struct sojimu_batch b =
         sojimu_batch(t, &s, ASK_100, sizeof ASK_100, ASK_100, sizeof ASK_100, other_out, ROOM, out, ROOM);
-    const struct sojimu_turn turn = sojimu_turn(t, s);
-    const struct sojimu_due due = sojimu_due(t, s, ASK_100, sizeof ASK_100, ASK_100, sizeof ASK_100);
+    const struct sojimu_turn turn = sojimu_turn(t, &s);
+    const struct sojimu_warning w = sojimu_warning(t, &s, 0);
+    const struct sojimu_due due = sojimu_due(t, &s, ASK_100, sizeof ASK_100, ASK_100, sizeof ASK_100);
     const struct sojimu_fit f = sojimu_fit(t, &p, list, SOJIMU_LIST), g = sojimu_fit(&p, t, list, SOJIMU_LIST);
     return !sojimu_sound(t) && !sojimu_sound_at(t, 0) && d.question == 9 && same_tables(&d.table, &empty) &&
-           v.outcome == SOJIMU_REFUSED && v.question == 9 && s.position == 0 && s.standing == SOJIMU_RUNNING &&
+           sojimu_fresh(t, SETTING).question == 9 && w.question == 9 && w.warns == 0 && w.estimate == SOJIMU_NO_ESTIMATE &&
+           v.outcome == SOJIMU_REFUSED && v.question == 9 && same_states(&s, &START) &&
            b.last.outcome == SOJIMU_REFUSED && b.last.question == 9 && b.used_device == 0 && b.used_host == 0 &&
            b.written_to_device == 0 && b.written_to_host == 0 && memcmp(other_out, unwritten, ROOM) == 0 &&
            turn.question == 9 && turn.side == 0 && due.side == SOJIMU_DEVICE && due.length == 0 &&
@@ -265,7 +284,7 @@ static bool word_refused(size_t place, uint32_t value)
 static void any_words(void)
 {
     const size_t states = 0, branches = 1, sort = 2, owner = 34, target = 162, fields = 290, high_label = 418, low_label = 546;
-    const size_t kind = 674, low = 1186, high = 1698;
+    const size_t kind = 674, low = 1186, high = 1698, share = 2210;
     struct sojimu_table t;
     mark();
     mark_list();
@@ -274,6 +293,7 @@ static void any_words(void)
         CHECK(word_refused(sort, WIDE[i]) && word_refused(sort + 1, WIDE[i]) && word_refused(sort + 2, WIDE[i]));
         CHECK(word_refused(owner, WIDE[i]) && word_refused(target + 2, WIDE[i]) && word_refused(fields + 1, WIDE[i]));
         CHECK(word_refused(high_label, WIDE[i]) && word_refused(low_label, WIDE[i]) && word_refused(kind, WIDE[i]));
+        CHECK(word_refused(share, WIDE[i]) && word_refused(share + 1, WIDE[i]) && word_refused(share + 2, WIDE[i]));
     }
     CHECK(word_refused(states, UINT32_C(4000000000)) && word_refused(states, 0) && word_refused(states, 33));
     CHECK(word_refused(states, 1) && word_refused(states, 2));
@@ -281,6 +301,12 @@ static void any_words(void)
     CHECK(word_refused(sort, 0) && word_refused(sort, 3) && word_refused(sort + 2, 1) && word_refused(owner, 2));
     CHECK(word_refused(owner, 3) && word_refused(target, 3) && word_refused(fields, 5) && word_refused(kind, 3));
     CHECK(word_refused(kind, 1) && word_refused(kind, 2) && word_refused(low, SOJIMU_ORIGIN + 101) && word_refused(high, 0));
+    /* one of two branches with a share; a choice of one branch, with less than all, all, and more */
+    CHECK(word_refused(share, 1) && word_refused(share, 1000) && word_refused(share + 2, 500));
+    CHECK(word_refused(share + 1, 999) && word_refused(share + 1, 1001));
+    t = p;
+    t.share[1] = 1000;
+    CHECK(sojimu_sound(&t));
     memset(&t, 0xFF, sizeof t);
     CHECK(all_nine(&t) && all_nine(&empty));
     /* numbers that pass in 8 or 16 bits do not in 32 */
@@ -308,12 +334,13 @@ static void words_beyond(void)
     t.kind[0] = p.kind[0];
     t.low[0] = p.low[0];
     t.high[0] = p.high[0];
+    memcpy(t.share, p.share, 4 * 3);
     mark();
     CHECK(sojimu_sound(&t) && sojimu_sound_at(&t, 2) && !sojimu_sound_at(&t, 3));
     CHECK(sojimu_dual(&t).question == 0 && sojimu_dual(&t).table.sort[0] == SOJIMU_RECEIVES);
     CHECK(sojimu_make(&t, 0, 0, out, ROOM).length == sizeof ASK_100 && opens(ASK_100, sizeof ASK_100));
     CHECK(sojimu_step(&t, &s, SOJIMU_DEVICE, ASK_100, sizeof ASK_100, out, ROOM).outcome == SOJIMU_FORWARDED);
-    CHECK(s.position == 1 && sojimu_turn(&t, s).question == 0 && sojimu_turn(&t, s).side == SOJIMU_HOST);
+    CHECK(s.position == 1 && sojimu_turn(&t, &s).question == 0 && sojimu_turn(&t, &s).side == SOJIMU_HOST);
     CHECK(sojimu_fit(&t, &p, list, 9).outcome == SOJIMU_FITS && sojimu_fit(&p, &t, list, 9).outcome == SOJIMU_FITS);
 }
 
@@ -447,7 +474,7 @@ static void encoder(void)
 int main(void)
 {
     p = table_of(P);
-    CHECK(sojimu_version() == 3 && SOJIMU_VERSION == 3 && sojimu_matches());
+    CHECK(sojimu_version() == 4 && SOJIMU_VERSION == 4 && sojimu_matches());
     bytes_determined();
     nothing();
     wide_numbers();

@@ -3,11 +3,14 @@
 #include <stdio.h>
 #include <string.h>
 
-static const char protocol_text[] = "rec X.+{!Ask(int[0..100]).&{?Ok().X},!Quit().end}";
+static const char protocol_text[] = "rec X.+{!Ask(int[0..100])@100.&{?Ok().X},!Quit()@900.end}";
 static const char device_text[] = "rec X.+{!Ask(int[0..50]).&{?Ok().X,?Busy().X}}";
 static const char other_text[] = "rec X.+{!Ask(int[0..200]).&{?Ok().X}}";
 
 static const char *const names[] = {"Device", "Host"};
+
+/* How far from its share a branch may be before the page shows it: 2.00 standard deviations. */
+enum { SETTING = 200 };
 
 /* The bytes that may wait on a side, a scan's worth, and those that are passed on together. Room for the longest message is enough
  * for either. */
@@ -67,7 +70,7 @@ static size_t receive(struct conversation *talk, uint32_t side, const char *byte
 /* Nothing more is due. Can it be once more bytes have come? */
 static bool may_go_on(const struct sojimu_table *protocol, const struct conversation *talk)
 {
-    const struct sojimu_turn turn = sojimu_turn(protocol, talk->state);
+    const struct sojimu_turn turn = sojimu_turn(protocol, &talk->state);
     if (turn.question != 0)
         return false;
     if (sojimu_broken(talk->waiting[turn.side], talk->length[turn.side])) {
@@ -99,6 +102,16 @@ static struct sojimu_verdict take(const struct sojimu_table *protocol, struct co
     return batch.last;
 }
 
+/* The tender's page, after each round: which branches are picked far too often or too seldom for their shares. */
+static void page(const struct sojimu_table *protocol, const struct sojimu_state *state)
+{
+    for (uint32_t branch = 0; branch < protocol->branches; branch++) {
+        const struct sojimu_warning warning = sojimu_warning(protocol, state, branch);
+        if (warning.question == 0 && warning.warns)
+            printf("branch %u of %s: %u in 1000, not %u\n", branch, names[warning.sender], warning.estimate, protocol->share[branch]);
+    }
+}
+
 /* Whenever bytes have come: passes on what is due. Says whether the conversation goes on. */
 static bool pump(const struct sojimu_table *protocol, struct conversation *talk)
 {
@@ -110,6 +123,7 @@ static bool pump(const struct sojimu_table *protocol, struct conversation *talk)
         printf("%s blamed, reason %d\n", names[last.party], last.reason);
         return false;
     }
+    page(protocol, &talk->state);
     return may_go_on(protocol, talk); /* which asks 9 and 10, too */
 }
 
@@ -144,14 +158,17 @@ int main(void)
     if (!fits(&device, &protocol))
         return 1;
     /* The host is early, and the device's first message comes in two pieces. */
-    struct conversation talk = {.state = sojimu_fresh()};
+    const struct sojimu_started started = sojimu_fresh(&protocol, SETTING);
+    if (started.question != 0)
+        return 1;
+    struct conversation talk = {.state = started.state};
     hear(&protocol, &talk, SOJIMU_HOST, "Ok\0\0\0\0\0\0\0", 9);
     hear(&protocol, &talk, SOJIMU_DEVICE, "Ask\0\0\0\0\0\1\0", 10);
     hear(&protocol, &talk, SOJIMU_DEVICE, "\0\0\0\7", 4);
     if (hear(&protocol, &talk, SOJIMU_DEVICE, "Ask\0\0\0\0\0\1\0\0\0\0\145", 14))
         return 1;
     /* A device that speaks another language. */
-    struct conversation strange = {.state = sojimu_fresh()};
+    struct conversation strange = {.state = started.state};
     if (hear(&protocol, &strange, SOJIMU_DEVICE, "GET / HTTP/1.1\r\n", 16))
         return 1;
     return 0;

@@ -6,7 +6,7 @@
 typedef void (*call)(void);
 
 /* How many words the longest call takes, the place for its struct among them, and one more so that their number is even. */
-enum { WORDS = 12 };
+enum { WORDS = 14 };
 
 /* Calls a function of up to WORDS words with `top` as the end of its stack. */
 void call_on(uint8_t *top, call function, const uintptr_t words[WORDS]);
@@ -20,6 +20,8 @@ __asm__(".text\n"
         "    movq %rdi, %rsp\n"
         "    movq %rsi, %rax\n"
         "    movq %rdx, %rbx\n"
+        "    pushq 104(%rbx)\n"
+        "    pushq 96(%rbx)\n"
         "    pushq 88(%rbx)\n"
         "    pushq 80(%rbx)\n"
         "    pushq 72(%rbx)\n"
@@ -121,35 +123,38 @@ static void tables(void)
 
 static void messages(void)
 {
+    static struct sojimu_started begun;
     static struct sojimu_state state;
     static uint8_t message[ROOM], other_out[ROOM];
     const struct sojimu_made made = sojimu_make(&table, 0, 0, message, ROOM);
-    const struct sojimu_state start = sojimu_fresh();
+    const struct sojimu_state start = fresh(&table);
     CHECK(made.question == 0);
     NEEDS(sojimu_raw_make, SOJIMU_STACK_TABLE, AT(&table), 0, 0, AT(out), ROOM);
     NEEDS(sojimu_raw_make, SOJIMU_STACK_TABLE, AT(&table), 0, SOJIMU_ALL_LOW, AT(out), 0);
     for (uint32_t side = 0; side < 3; side++) {
         state = start;
-        NEEDS(sojimu_raw_step, SOJIMU_STACK_TABLE, AT(&table), AT(&state), side, AT(message), made.length, AT(out), ROOM);
+        NEEDS(sojimu_raw_step, SOJIMU_STACK_TABLE, AT(&table), AT(&state), AT(sojimu_counts(&state)), side, AT(message), made.length, AT(out), ROOM);
     }
     state = start;
     memcpy(message, "No", 2);
-    NEEDS(sojimu_raw_step, SOJIMU_STACK_TABLE, AT(&table), AT(&state), 0, AT(message), made.length, AT(out), ROOM);
+    NEEDS(sojimu_raw_step, SOJIMU_STACK_TABLE, AT(&table), AT(&state), AT(sojimu_counts(&state)), 0, AT(message), made.length, AT(out), ROOM);
     for (size_t room = 0; room <= ROOM; room += ROOM) {
         static struct sojimu_batch given;
         state = start;
-        NEEDS(sojimu_raw_batch, SOJIMU_STACK_TABLE, AT(&given), AT(&table), AT(&state), AT(message), ROOM, AT(message), ROOM,
+        NEEDS(sojimu_raw_batch, SOJIMU_STACK_TABLE, AT(&given), AT(&table), AT(&state), AT(sojimu_counts(&state)), AT(message), ROOM,
+              AT(message), ROOM,
               AT(out), room, AT(other_out), room);
     }
-    NEEDS(sojimu_raw_due, SOJIMU_STACK_TABLE, AT(&table), 0, AT(message), ROOM, AT(message), ROOM);
-    NEEDS(sojimu_turn, SOJIMU_STACK_TABLE, AT(&table), 0);
+    NEEDS(sojimu_raw_due, SOJIMU_STACK_TABLE, AT(&table), AT(&state), AT(sojimu_counts(&state)), AT(message), ROOM, AT(message), ROOM);
+    NEEDS(sojimu_raw_turn, SOJIMU_STACK_TABLE, AT(&table), AT(&state), AT(sojimu_counts(&state)));
+    NEEDS(sojimu_raw_warning, SOJIMU_STACK_TABLE, AT(&table), AT(&state), AT(sojimu_counts(&state)), 127);
     NEEDS(sojimu_raw_front, SOJIMU_STACK_OTHER, AT(message), ROOM);
     NEEDS(sojimu_raw_broken, SOJIMU_STACK_OTHER, AT(message), ROOM);
     NEEDS(sojimu_raw_refusal, SOJIMU_STACK_OTHER, AT(message), made.length);
     NEEDS(sojimu_raw_has_label, SOJIMU_STACK_OTHER, AT(message), ROOM, 0);
     NEEDS(sojimu_label_legal, SOJIMU_STACK_OTHER, 0);
     NEEDS(sojimu_range_legal, SOJIMU_STACK_OTHER, 1, 0, 0);
-    NEEDS(sojimu_fresh, SOJIMU_STACK_OTHER, 0);
+    NEEDS(sojimu_fresh, SOJIMU_STACK_TABLE, AT(&begun), AT(&table), SETTING);
     NEEDS(sojimu_version, SOJIMU_STACK_OTHER, 0);
 }
 

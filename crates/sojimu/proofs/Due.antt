@@ -2,13 +2,14 @@
 -- Assumes nothing.
 use mathlib.Core.Path.{_≡_, refl}
 use Rattle.table.specs.declared.Party.the-variants.{Device, Host}
-use Rattle.monitor.specs.Due.{Awaited, refused, of-side, awaited, due-at, due}
+use Rattle.monitor.specs.Due.{Awaited, refused, of-side, due-at}
+use Rattle.monitor.specs.Counts.{counted-turn, counted-due}
 use Rattle.sojimu.specs.Calls.{due-codes, waiting, part-told, DuePart}
 use denote.Ref.{now}
 
 pub due-part : DuePart
-unfolding due due-at due-codes waiting part-told
-due-part t s device host = by (awaited t s)
+unfolding counted-due due-at due-codes waiting part-told
+due-part t s c device host = by (counted-turn t s c)
   where
     by : (turn : Awaited) → part-told (due-codes turn (now device) (now host)) device host ≡ due-at turn device host
     by (of-side Device) = refl

@@ -4,4 +4,5 @@ pub mod Sides
 pub mod Advance
 pub mod Passing
 pub mod Due
+pub mod Warn
 pub mod Answers

@@ -8,16 +8,18 @@ use Prim.Native.Nat.{ℕ}
 use lib.ListN.{getD}
 use lib.Dec.{eqb}
 use borrow.Author.Tests.{ne-eqb, eq-eqb, eqb-true}
+use Rattle.table.specs.Lists.{first-no}
 use Rattle.table.specs.View.{Words}
 use Rattle.table.proofs.Lists.{both, join, left-fails}
 use Rattle.monitor.specs.declared.State.{State}
 use Rattle.monitor.specs.declared.batch.Batched.{Batched}
 use Rattle.monitor.specs.Step.{refused}
-use Rattle.monitor.specs.Batch.{Batch, begun, batching, last-of, batched}
-use Rattle.monitor.proofs.Batching.{kept-out}
+use Rattle.monitor.specs.Batch.{Batch, batch-questions, begun, last-of, batched}
+use Rattle.monitor.specs.Counts.{Counts, counts-sound, counted-batch}
+use Rattle.monitor.proofs.Counted.{batch-away}
 use Rattle.sojimu.specs.declared.steps.Verdict.{Verdict}
 use Rattle.sojimu.specs.declared.batches.Batch as C
-use Rattle.sojimu.specs.Codes.{standing-code, standing-of, state-of, state-bytes, last-codes}
+use Rattle.sojimu.specs.Codes.{standing-code, standing-of, state-of, state-in, state-bytes, last-codes}
 use Rattle.sojimu.specs.Calls.{batch-codes, stand-for, bytes-for, batch-crossing, batching-codes, CodesBatch, BatchRefused}
 use Rattle.sojimu.proofs.Advance.{standing-same, state-same}
 
@@ -43,8 +45,9 @@ module _ (s : State) (bytes : List ℕ) where
 
 -- ---- the call
 
-module _ (t : Words) (s : State) (bytes device host to-device to-host : List ℕ) (r : Batched) (after td th : List ℕ) (last : Verdict) where
-  pub batch-crossed : s ≡ state-of (getD bytes 0 0) (getD bytes 1 0) → batched r td th ≡ batching t s device host to-device to-host
+module _ (t : Words) (s : State) (bytes : List ℕ) (c : Counts) (device host to-device to-host : List ℕ) (r : Batched) (after : List ℕ) (up : Counts)
+    (td th : List ℕ) (last : Verdict) where
+  pub batch-crossed : s ≡ state-in bytes → (batched r td th, up) ≡ counted-batch t s c device host to-device to-host
       → after ≡ bytes-for (r .state) bytes → last ≡ last-codes (last-of (r .passed .last))
       → (
         record {
@@ -56,13 +59,15 @@ module _ (t : Words) (s : State) (bytes device host to-device to-host : List ℕ
           reserved = 0 ∷ 0 ∷ 0 ∷ [];
         },
         after,
+        up,
         td,
         th,
       )
-      ≡ batching-codes t bytes device host to-device to-host
+      ≡ batching-codes t bytes c device host to-device to-host
   unfolding batching-codes batch-crossing batch-codes batched
   batch-crossed e h k l =
-      rw (k, l) (ap (λ (b : Batch). batch-crossing b bytes) (h ∙ ap (λ (s : State). batching t s device host to-device to-host) e))
+      rw (k, l)
+      (ap (λ (x : Batch × Counts). batch-crossing x bytes) (h ∙ ap (λ (s : State). counted-batch t s c device host to-device to-host) e))
 
 -- ---- over the codes of a state
 
@@ -79,8 +84,8 @@ kept-bytes s x = by (stand-for (s .position) (standing-code (s .standing)) x) re
 
 pub codes-batch : CodesBatch
 unfolding batching-codes batch-crossing
-codes-batch t s device host to-device to-host =
-    rw (state-same s) (rw (kept-bytes s (batching t s device host to-device to-host .state)))
+codes-batch t s c device host to-device to-host =
+    rw (state-same s) (rw (kept-bytes s (counted-batch t s c device host to-device to-host .0 .state)))
 
 -- ---- a batch that is refused
 
@@ -88,10 +93,22 @@ own-bytes : (p c : ℕ) → stand-for p c (state-of p c) ≡ true
 unfolding stand-for
 own-bytes p c = join (eq-eqb p p refl) (eq-eqb (standing-code (standing-of c)) (standing-code (standing-of c)) refl)
 
+nothing-passed : (t : Words) (s : State) (c : Counts) (device host to-device to-host : List ℕ) (q : ℕ)
+    → q ≡ cond (counts-sound t c) (first-no (batch-questions t s)) 9 → (q ≡ 0 → ⊥)
+    → counted-batch t s c device host to-device to-host ≡ (begun s to-device to-host (some (refused q)), c)
+unfolding counted-batch
+nothing-passed t s c device host to-device to-host q e n = by (counts-sound t c) refl e
+  where
+    by : (b : Bool) → counts-sound t c ≡ b → q ≡ cond b (first-no (batch-questions t s)) 9
+        → counted-batch t s c device host to-device to-host ≡ (begun s to-device to-host (some (refused q)), c)
+    by true h e =
+        batch-away t s c h (record { device = device; host = host; «to-device» = to-device; «to-host» = to-host }) q e n
+    by false h e = rw (h, e)
+
 pub batch-refused : BatchRefused
 unfolding batching-codes batch-crossing begun
-batch-refused t bytes device host to-device to-host q e n =
-    let s = state-of (getD bytes 0 0) (getD bytes 1 0) in
-    ap (λ (b : Batch). batch-crossing b bytes) (sym (kept-out t device host s to-device to-host q e n))
-    ∙ ap (λ (after : List ℕ). (batch-codes (begun s to-device to-host (some (refused q))), after, to-device, to-host))
+batch-refused t bytes c device host to-device to-host q e n =
+    let s = state-in bytes in
+    ap (λ (x : Batch × Counts). batch-crossing x bytes) (nothing-passed t s c device host to-device to-host q e n)
+    ∙ ap (λ (after : List ℕ). (batch-codes (begun s to-device to-host (some (refused q))), after, c, to-device, to-host))
     (sym (bytes-left s bytes (own-bytes (getD bytes 0 0) (getD bytes 1 0))))

@@ -11,25 +11,28 @@ use Rattle.table.specs.View.{Words}
 use Rattle.table.specs.declared.Party.{Party}
 use Rattle.table.specs.declared.Party.the-variants.{Device, Host}
 use Rattle.monitor.specs.declared.State as M
-use Rattle.monitor.specs.Step.{of-state, Told, refused, blamed, forwarded, Outcome, refusing, stepping}
+use Rattle.monitor.specs.Step.{of-state, Told, refused, blamed, forwarded, Outcome, refusing}
 use Rattle.table.specs.Lists.{first-no}
-use Rattle.monitor.specs.Due.{Seen, cut, Awaited, of-side, awaited, first-length, due}
+use Rattle.monitor.specs.Due.{Seen, cut, Awaited, of-side, first-length}
 use Rattle.monitor.specs.Due as D
-use Rattle.monitor.specs.Batch.{Batch, batch-questions, begun, batching}
+use Rattle.monitor.specs.Batch.{Batch, batch-questions, begun}
+use Rattle.monitor.specs.Counts.{Counts, counts-sound, counted-step, counted-turn, counted-due, counted-batch}
+use Rattle.monitor.specs.Warning.{warning}
 use Rattle.fit.specs.Answer.{Answer, Answered}
 use Rattle.sojimu.specs.declared.steps.Verdict.{Verdict}
 use Rattle.sojimu.specs.declared.steps.Due.{Due}
 use Rattle.sojimu.specs.declared.batches.Batch as C
 use Rattle.sojimu.specs.declared.fits.Fit.{Fit}
-use Rattle.sojimu.specs.Codes.{code-side, party-code, standing-code, standing-of, state-of, state-bytes, verdict-codes, last-codes, fit-codes}
+use Rattle.sojimu.specs.Codes.{code-side, party-code, standing-code, standing-of, state-in, state-bytes, verdict-codes, last-codes, warning-codes, fit-codes}
 use denote.Ref.{RefT, now}
 
 -- ---- one step
 
--- what no side says is never in turn: 9, 10 and 11 are asked, and 12 gets a no
-unfoldable pub stepping-as : Option Party → Words → M.State → List ℕ → List ℕ → Outcome
-stepping-as (some side) t s message out = stepping t s side message out
-stepping-as none t s message out = refusing (first-no (of-state t s ++ ((12, false) ∷ []))) s out
+-- what no side says is never in turn: 9, on the counts, too, 10 and 11 are asked, and 12 gets a no
+unfoldable pub stepping-as : Option Party → Words → M.State → Counts → List ℕ → List ℕ → Outcome × Counts
+stepping-as (some side) t s c message out = counted-step t s c side message out
+stepping-as none t s c message out =
+    (refusing (cond (counts-sound t c) (first-no (of-state t s ++ ((12, false) ∷ []))) 9) s out, c)
 
 -- the state's two bytes after a step: a refusal leaves them as they were
 unfoldable pub bytes-after : Told → M.State → List ℕ → List ℕ
@@ -37,13 +40,12 @@ bytes-after (refused q) s bytes = bytes
 bytes-after (blamed side n f) s bytes = state-bytes s
 bytes-after forwarded s bytes = state-bytes s
 
--- the verdict, the state's two bytes, and the output
-unfoldable pub crossing : Outcome → List ℕ → Verdict × List ℕ × List ℕ
-crossing r bytes = (verdict-codes (r .verdict), bytes-after (r .verdict) (r .state) bytes, r .output)
+-- the verdict, the state's two bytes, its counts, and the output
+unfoldable pub crossing : Outcome × Counts → List ℕ → Verdict × List ℕ × Counts × List ℕ
+crossing (r, c) bytes = (verdict-codes (r .verdict), bytes-after (r .verdict) (r .state) bytes, c, r .output)
 
-unfoldable pub step-codes : Words → List ℕ → ℕ → List ℕ → List ℕ → Verdict × List ℕ × List ℕ
-step-codes t bytes side message out =
-    crossing (stepping-as (code-side side) t (state-of (getD bytes 0 0) (getD bytes 1 0)) message out) bytes
+unfoldable pub step-codes : Words → List ℕ → Counts → ℕ → List ℕ → List ℕ → Verdict × List ℕ × Counts × List ℕ
+step-codes t bytes c side message out = crossing (stepping-as (code-side side) t (state-in bytes) c message out) bytes
 
 -- ---- a batch
 
@@ -67,13 +69,13 @@ stand-for position standing s = eqb position (s .position) && eqb (standing-code
 unfoldable pub bytes-for : M.State → List ℕ → List ℕ
 bytes-for s bytes = cond (stand-for (getD bytes 0 0) (getD bytes 1 0) s) bytes (state-bytes s)
 
--- the answer, the state's two bytes, the device's output and the host's
-unfoldable pub batch-crossing : Batch → List ℕ → C.Batch × List ℕ × List ℕ × List ℕ
-batch-crossing b bytes = (batch-codes b, bytes-for (b .state) bytes, b .host .output, b .device .output)
+-- the answer, the state's two bytes, its counts, the device's output and the host's
+unfoldable pub batch-crossing : Batch × Counts → List ℕ → C.Batch × List ℕ × Counts × List ℕ × List ℕ
+batch-crossing (b, c) bytes = (batch-codes b, bytes-for (b .state) bytes, c, b .host .output, b .device .output)
 
-unfoldable pub batching-codes : Words → List ℕ → List ℕ → List ℕ → List ℕ → List ℕ → C.Batch × List ℕ × List ℕ × List ℕ
-batching-codes t bytes device host to-device to-host =
-    batch-crossing (batching t (state-of (getD bytes 0 0) (getD bytes 1 0)) device host to-device to-host) bytes
+unfoldable pub batching-codes : Words → List ℕ → Counts → List ℕ → List ℕ → List ℕ → List ℕ → C.Batch × List ℕ × Counts × List ℕ × List ℕ
+batching-codes t bytes c device host to-device to-host =
+    batch-crossing (counted-batch t (state-in bytes) c device host to-device to-host) bytes
 
 -- ---- the due part
 
@@ -105,29 +107,37 @@ pub record Checked (d p : Words) (before after : List ℕ) (r : Fit) : Type 0 wh
 -- over the codes of a state and a side, a step is the monitor's own, in codes
 abbrev pub CodesStep : Type 0
 CodesStep =
-    (t : Words) (s : M.State) (side : Party) (message out : List ℕ)
-    → step-codes t (state-bytes s) (party-code side) message out
-    ≡ (verdict-codes (stepping t s side message out .verdict), state-bytes (stepping t s side message out .state), stepping t s side message out .output)
+    (t : Words) (s : M.State) (c : Counts) (side : Party) (message out : List ℕ) → let x = counted-step t s c side message out in
+    step-codes t (state-bytes s) c (party-code side) message out
+    ≡ (verdict-codes (x .0 .verdict), state-bytes (x .0 .state), x .1, x .0 .output)
 
 -- over the codes of a state, a batch is the monitor's own, in codes
 abbrev pub CodesBatch : Type 0
 CodesBatch =
-    (t : Words) (s : M.State) (device host to-device to-host : List ℕ) → let b = batching t s device host to-device to-host in
-    batching-codes t (state-bytes s) device host to-device to-host ≡ (batch-codes b, state-bytes (b .state), b .host .output, b .device .output)
+    (t : Words) (s : M.State) (c : Counts) (device host to-device to-host : List ℕ)
+    → let x = counted-batch t s c device host to-device to-host in
+    batching-codes t (state-bytes s) c device host to-device to-host
+    ≡ (batch-codes (x .0), state-bytes (x .0 .state), x .1, x .0 .host .output, x .0 .device .output)
 
 -- a batch that 9 or 10 refuses: counts of 0, the question, and every lent byte as it was, whatever the state's two bytes are
 abbrev pub BatchRefused : Type 0
 BatchRefused =
-    (t : Words) (bytes device host to-device to-host : List ℕ) (q : ℕ)
-    → q ≡ first-no (batch-questions t (state-of (getD bytes 0 0) (getD bytes 1 0))) → (q ≡ 0 → ⊥)
-    → batching-codes t bytes device host to-device to-host
-    ≡ (batch-codes (begun (state-of (getD bytes 0 0) (getD bytes 1 0)) to-device to-host (some (refused q))), bytes, to-device, to-host)
+    (t : Words) (bytes : List ℕ) (c : Counts) (device host to-device to-host : List ℕ) (q : ℕ)
+    → q ≡ cond (counts-sound t c) (first-no (batch-questions t (state-in bytes))) 9 → (q ≡ 0 → ⊥)
+    → batching-codes t bytes c device host to-device to-host
+    ≡ (batch-codes (begun (state-in bytes) to-device to-host (some (refused q))), bytes, c, to-device, to-host)
 
 -- the side and the length that are told as due are the due part of document 01
 abbrev pub DuePart : Type 0
 DuePart =
-    (t : Words) (s : M.State) (device host : RefT (List ℕ))
-    → part-told (due-codes (awaited t s) (now device) (now host)) device host ≡ due t s device host
+    (t : Words) (s : M.State) (c : Counts) (device host : RefT (List ℕ))
+    → part-told (due-codes (counted-turn t s c) (now device) (now host)) device host ≡ counted-due t s c device host
+
+-- the codes of a warning are those of one answer only
+abbrev pub CodesWarn : Type 0
+CodesWarn =
+    (t u : Words) (s r : M.State) (c d : Counts) (a b : ℕ) → warning-codes (warning t s c a) ≡ warning-codes (warning u r d b)
+    → warning t s c a ≡ warning u r d b
 
 -- the fit check's codes are those of one answer only
 abbrev pub CodesTell : Type 0

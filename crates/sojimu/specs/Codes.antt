@@ -5,21 +5,25 @@ use mathlib.Core.List.{List, [], _∷_}
 use mathlib.Core.Option.{Option, none, some}
 use Prim.Native.Nat.{ℕ, zero, suc}
 use lib.Dec.{eqb}
+use lib.ListN.{getD}
 use Rattle.table.specs.declared.Party.{Party}
 use Rattle.table.specs.declared.Party.the-variants.{Device, Host}
 use Rattle.monitor.specs.declared.Standing.{Standing}
 use Rattle.monitor.specs.declared.Standing.the-variants.{Running, DeviceBlamed, HostBlamed}
 use Rattle.monitor.specs.declared.State as M
+use Rattle.monitor.specs.declared.Started as S
 use Rattle.monitor.specs.Step.{Told, refused, blamed, forwarded}
 use Rattle.monitor.specs.Due as D
 use Rattle.message.specs.declared.Head as H
 use Rattle.fit.specs.Answer as F
+use Rattle.monitor.specs.Warning as W
 use Rattle.sojimu.specs.declared.messages.Head.{Head}
 use Rattle.sojimu.specs.declared.messages.Made.{Made}
-use Rattle.sojimu.specs.declared.steps.State.{State}
+use Rattle.sojimu.specs.declared.steps.Started.{Started}
 use Rattle.sojimu.specs.declared.steps.Verdict.{Verdict}
 use Rattle.sojimu.specs.declared.steps.Turn.{Turn}
 use Rattle.sojimu.specs.declared.fits.Fit.{Fit}
+use Rattle.sojimu.specs.declared.warnings.Warning.{Warning}
 
 -- ---- sides and turns
 
@@ -55,12 +59,20 @@ standing-of (suc (suc n)) = HostBlamed
 abbrev pub state-of : ℕ → ℕ → M.State
 state-of position standing = record { position = position; standing = standing-of standing }
 
-abbrev pub state-codes : M.State → State
-state-codes s = record { position = s .position; standing = standing-code (s .standing) }
-
 -- as two bytes
 abbrev pub state-bytes : M.State → List ℕ
 state-bytes s = s .position ∷ standing-code (s .standing) ∷ []
+
+abbrev pub state-in : List ℕ → M.State
+state-in bytes = state-of (getD bytes 0 0) (getD bytes 1 0)
+
+-- a conversation that is started: the question that got a no, or 0, and its state
+abbrev pub started-codes : S.Started → Started
+started-codes r =
+    record {
+      question = r .question;
+      state = record { position = r .state .position; standing = standing-code (r .state .standing); counts = r .counts };
+    }
 
 -- ---- the verdict of a step
 
@@ -75,6 +87,22 @@ verdict-codes (blamed side n (some f)) = record { outcome = 2; question = 0; par
 abbrev pub last-codes : Option Told → Verdict
 last-codes none = record { outcome = 3; question = 0; party = 0; reason = 0; field = 0 }
 last-codes (some v) = verdict-codes v
+
+-- ---- the warning of a branch
+
+-- 65535: there is none
+abbrev pub estimate-code : Option ℕ → ℕ
+estimate-code none = 65535
+estimate-code (some e) = e
+
+abbrev pub sender-code : Option Party → ℕ
+sender-code none = 0
+sender-code (some side) = party-code side
+
+-- the question that got a no, or 0; whether it warns, the sender, and the estimate
+abbrev pub warning-codes : W.Notice → Warning
+warning-codes (W.refused q) = record { question = q; warns = 0; sender = 0; estimate = estimate-code none }
+warning-codes (W.tells w side e) = record { question = 0; warns = cond w 1 0; sender = sender-code side; estimate = estimate-code e }
 
 -- ---- a message's front; a made message, and the field that is high
 

@@ -5,6 +5,7 @@ ghost use Rattle.sojimu.specs.Codes.{last-codes};
 ghost use Rattle.sojimu.specs.Calls.{stand-for, bytes-for, batching-codes};
 use super::steps;
 use super::steps::Verdict;
+use monitor::Counts;
 use monitor::batch::Last;
 use table::Table;
 
@@ -19,22 +20,23 @@ pub struct Batch {
     pub reserved: [u8; 3],
 }
 
-// A batch. The state's two bytes, position and standing, are lent and advanced.
+// A batch. The state's two bytes, position and standing, and its counts are lent and advanced.
 #[no_mangle]
 pub extern "C" fn sojimu_raw_batch(
     table: &Table,
     state: &mut [u8; 2],
+    counts: &mut Counts,
     device: &[u8],
     host: &[u8],
     to_device: &mut [u8],
     to_host: &mut [u8],
 ) -> Batch
-    ensures { λ r. ⌜ (r, now (state .exit), now («to_device» .exit), now («to_host» .exit))
-        ≡ batching-codes (now (table .entry)) (now (state .entry)) (now (device .entry)) (now (host .entry))
+    ensures { λ r. ⌜ (r, now (state .exit), now (counts .exit), now («to_device» .exit), now («to_host» .exit))
+        ≡ batching-codes (now (table .entry)) (now (state .entry)) (now (counts .entry)) (now (device .entry)) (now (host .entry))
         (now («to_device» .entry)) (now («to_host» .entry)) ⌝ }
 {
     let s = steps::state_of(state[0], state[1]);
-    let r = monitor::batch::batch(table, s, device, host, to_device, to_host);
+    let r = monitor::batch::batch(table, s, counts, device, host, to_device, to_host);
     renew(state, r.state);
     let passed = r.passed;
     let from_device = passed.device;

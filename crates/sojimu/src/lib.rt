@@ -9,11 +9,12 @@ mod messages;
 mod steps;
 mod tables;
 mod texts;
+mod warnings;
 
 // The header's number (SOJIMU_VERSION): raised whenever a struct or a call changes.
 #[no_mangle]
 pub extern "C" fn sojimu_version() -> u32
-    ensures { λ r. ⌜ r ≡ 3 ⌝ }
+    ensures { λ r. ⌜ r ≡ 4 ⌝ }
 {
-    3
+    4
 }

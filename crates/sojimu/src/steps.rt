@@ -1,22 +1,32 @@
 // The monitor: one step over a lent state, whose turn it is, and the due part.
 ghost use mathlib.Core.Path.{_≡_};
 ghost use Rattle.monitor.specs.declared.Verdict.the-variants.{Blamed};
-ghost use Rattle.monitor.specs.Step.{fresh, told};
-ghost use Rattle.monitor.specs.Due.{awaited, turn-answer, first-length};
-ghost use Rattle.sojimu.specs.Codes.{code-side, party-code, turn-codes, standing-code, standing-of, state-of, state-codes, state-bytes, verdict-codes};
+ghost use Rattle.monitor.specs.Step.{told};
+ghost use Rattle.monitor.specs.Due.{turn-answer, first-length};
+ghost use Rattle.monitor.specs.Counts.{starting, counted-turn};
+ghost use Rattle.sojimu.specs.Codes.{code-side, party-code, turn-codes, standing-code, standing-of, state-of, state-in, state-bytes, started-codes, verdict-codes};
 ghost use Rattle.sojimu.specs.Calls.{bytes-after, step-codes, due-codes};
 ghost use Rattle.sojimu.specs.Inner.{stand-in};
+use monitor::Counts;
 use monitor::Reason;
 use monitor::Standing;
 use monitor::Stepped;
 use table::Party;
 use table::Table;
 
-// A conversation's state. Standing: 0 running, 1 device blamed, 2 host blamed.
+// A conversation's state. Standing: 0 running, 1 device blamed, 2 host blamed. Counts: the setting, n of each state, k of each branch.
 #[repr(C)]
 pub struct State {
     pub position: u8,
     pub standing: u8,
+    pub counts: Counts,
+}
+
+// What a conversation is started with: the number of the question that got a no, or 0, and the state.
+#[repr(C)]
+pub struct Started {
+    pub question: u32,
+    pub state: State,
 }
 
 // Outcome: 0 forwarded, 1 refused (question), 2 blamed (party: 0 device, 1 host; reason; field with reason 3).
@@ -43,41 +53,50 @@ pub struct Due {
     pub length: u32,
 }
 
+// A conversation over a table, with the setting in hundredths. Asks 9, then 21.
 #[no_mangle]
-pub extern "C" fn sojimu_fresh() -> State
-    ensures { λ r. ⌜ r ≡ state-codes fresh ⌝ }
+pub extern "C" fn sojimu_fresh(table: &Table, setting: u32) -> Started
+    ensures { λ r. ⌜ r ≡ started-codes (starting (now (table .entry)) setting) ⌝ }
 {
-    let s = monitor::fresh();
+    let r = monitor::fresh(table, setting);
+    let s = r.state;
+    let counts = r.counts;
     let standing = s.standing;
-    State {
+    let state = State {
         position: s.position,
         standing: standing_code(standing),
+        counts,
+    };
+    Started {
+        question: r.question as u32,
+        state,
     }
 }
 
-// One step. The state's two bytes, position and standing, are lent and advanced.
+// One step. The state's two bytes, position and standing, and its counts are lent and advanced.
 #[no_mangle]
 pub extern "C" fn sojimu_raw_step(
     table: &Table,
     state: &mut [u8; 2],
+    counts: &mut Counts,
     side: u32,
     message: &[u8],
     out: &mut [u8],
 ) -> Verdict
-    ensures { λ r. ⌜ (r, now (state .exit), now (out .exit))
-        ≡ step-codes (now (table .entry)) (now (state .entry)) side (now (message .entry)) (now (out .entry)) ⌝ }
+    ensures { λ r. ⌜ (r, now (state .exit), now (counts .exit), now (out .exit))
+        ≡ step-codes (now (table .entry)) (now (state .entry)) (now (counts .entry)) side (now (message .entry)) (now (out .entry)) ⌝ }
 {
     let s = state_of(state[0], state[1]);
-    let speaker = speaker_of(table, s, side);
-    let r = monitor::step(table, s, speaker, message, out);
+    let speaker = speaker_of(table, s, counts, side);
+    let r = monitor::step(table, s, counts, speaker, message, out);
     keep(state, r);
     let verdict = r.verdict;
     verdict_codes(verdict)
 }
 
 // The side in whose name a step is taken: for a code that is no side's, one whose turn it is not.
-fn speaker_of(table: &Table, s: monitor::State, side: u32) -> Party
-    ensures { λ r. ⌜ r ≡ stand-in (code-side side) (awaited (now (table .entry)) s) ⌝ }
+fn speaker_of(table: &Table, s: monitor::State, counts: &Counts, side: u32) -> Party
+    ensures { λ r. ⌜ r ≡ stand-in (code-side side) (counted-turn (now (table .entry)) s (now (counts .entry))) ⌝ }
 {
     if side == 0 {
         return Party::Device;
@@ -85,7 +104,7 @@ fn speaker_of(table: &Table, s: monitor::State, side: u32) -> Party
     if side == 1 {
         return Party::Host;
     }
-    let turn = monitor::whose_turn(table, s);
+    let turn = monitor::whose_turn(table, s, counts);
     match turn {
         monitor::Turn::Refused(_) => Party::Device,
         monitor::Turn::Of(awaited) => match awaited {
@@ -119,22 +138,28 @@ pub fn put(state: &mut [u8; 2], s: monitor::State)
 
 // Whose turn it is. Asks 9, 10 and 11.
 #[no_mangle]
-pub extern "C" fn sojimu_turn(table: &Table, state: State) -> Turn
-    ensures { λ r. ⌜ r ≡ turn-codes (awaited (now (table .entry)) (state-of (state .position) (state .standing))) ⌝ }
+pub extern "C" fn sojimu_raw_turn(table: &Table, state: &[u8; 2], counts: &Counts) -> Turn
+    ensures { λ r. ⌜ r ≡ turn-codes (counted-turn (now (table .entry)) (state-in (now (state .entry))) (now (counts .entry))) ⌝ }
 {
-    let s = state_of(state.position, state.standing);
-    let turn = monitor::whose_turn(table, s);
+    let s = state_of(state[0], state[1]);
+    let turn = monitor::whose_turn(table, s, counts);
     turn_codes(turn)
 }
 
 // The due part, as a side and a length.
 #[no_mangle]
-pub extern "C" fn sojimu_raw_due(table: &Table, state: State, device: &[u8], host: &[u8]) -> Due
-    ensures { λ r. ⌜ r ≡ due-codes (awaited (now (table .entry)) (state-of (state .position) (state .standing)))
+pub extern "C" fn sojimu_raw_due(
+    table: &Table,
+    state: &[u8; 2],
+    counts: &Counts,
+    device: &[u8],
+    host: &[u8],
+) -> Due
+    ensures { λ r. ⌜ r ≡ due-codes (counted-turn (now (table .entry)) (state-in (now (state .entry))) (now (counts .entry)))
         (now (device .entry)) (now (host .entry)) ⌝ }
 {
-    let s = state_of(state.position, state.standing);
-    let turn = monitor::whose_turn(table, s);
+    let s = state_of(state[0], state[1]);
+    let turn = monitor::whose_turn(table, s, counts);
     match turn {
         monitor::Turn::Refused(_) => Due { side: 0, length: 0 },
         monitor::Turn::Of(side) => match side {
@@ -186,7 +211,7 @@ pub fn standing_code(standing: Standing) -> u8
     }
 }
 
-fn party_code(party: Party) -> u8
+pub fn party_code(party: Party) -> u8
     ensures { λ r. ⌜ r ≡ party-code party ⌝ }
 {
     match party {

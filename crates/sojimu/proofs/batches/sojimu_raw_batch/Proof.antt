@@ -8,8 +8,9 @@ returns : tie.Need-returns
 returns c =
     let x = c .before .before .before .before in
     let y = x .before .before .before .before .before .before in
-    let a = y .before .before .before .before .before .before .before .before .before .before .args in
-    batch-crossed _ _ (a .state .now) (a .device .now) (a .host .now) _ _ _ _ _ _ _ (y .before .before .before .state-of .ensures) (y .batch .ensures) (x .renew .ensures) (c .last-codes .ensures)
+    let z = y .before .before .before .before in
+    let a = z .before .before .before .before .before .before .before .args in
+    batch-crossed _ _ (a .state .now) (a .counts .now) (a .device .now) (a .host .now) _ _ _ _ _ _ _ _ (z .state-of .ensures) (y .batch .ensures) (x .renew .ensures) (c .last-codes .ensures)
 
 pub sojimu-raw-batch-spec : {M : Type 1} → statement M
 sojimu-raw-batch-spec =

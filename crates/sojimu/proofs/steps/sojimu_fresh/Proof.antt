@@ -4,7 +4,7 @@ use Rattle.sojimu.proofs.steps.sojimu_fresh.Statement.{statement}
 use Rattle.sojimu.proofs.steps.sojimu_fresh.Tie as tie
 
 returns : tie.Need-returns
-returns c = rw (c .standing-code .ensures, c .before .fresh .ensures)
+returns c = rw (c .before .standing-code .ensures, c .before .before .before .before .fresh .ensures)
 
 pub sojimu-fresh-spec : {M : Type 1} → statement M
-sojimu-fresh-spec = tie.close (tie.spec (λ c κs. search needs) (λ c κs. search needs) returns)
+sojimu-fresh-spec = tie.close (tie.spec (λ c κs. search needs) (λ c κs. search needs) (λ c. search needs) returns)

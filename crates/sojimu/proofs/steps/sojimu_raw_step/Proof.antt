@@ -7,8 +7,9 @@ use Rattle.sojimu.proofs.steps.sojimu_raw_step.Tie as tie
 returns : tie.Need-returns
 returns c =
     let x = c .before .before .before .before .before in
-    let a = x .before .before .before .before .before .before .before .before .args in
-    crossed _ _ (a .side) _ (a .state .now) (a .message .now) (a .out .now) _ _ _ _ (x .before .before .before .state-of .ensures) (x .before .before .speaker-of .ensures) (x .step .ensures) (c .before .keep .ensures) (c .verdict-codes .ensures)
+    let y = x .before .before .before .before .before in
+    let a = y .before .before .before .before .before .args in
+    crossed _ _ (a .side) _ (a .state .now) (a .counts .now) (a .message .now) (a .out .now) _ _ _ _ _ (y .state-of .ensures) (x .before .before .before .speaker-of .ensures) (x .step .ensures) (c .before .keep .ensures) (c .verdict-codes .ensures)
 
 pub sojimu-raw-step-spec : {M : Type 1} → statement M
 sojimu-raw-step-spec =
