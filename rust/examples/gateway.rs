@@ -1,9 +1,9 @@
 //! A gateway in small: one device, one host, and the bytes that come from either.
 
-use sojimu::{message, Fitting, Party, Question, Standing, State, Table, Verdict, LONGEST_LIST, LONGEST_MESSAGE};
+use sojimu::{message, Fitting, Party, Question, Standing, State, Table, Verdict, Warning, LONGEST_LIST, LONGEST_MESSAGE};
 use std::io::{self, Write};
 
-const PROTOCOL: &[u8] = b"rec X.+{!Ask(int[0..100]).&{?Ok().X},!Quit().end}";
+const PROTOCOL: &[u8] = b"rec X.+{!Ask(int[0..100])@100.&{?Ok().X},!Quit()@900.end}";
 const DEVICE: &[u8] = b"rec X.+{!Ask(int[0..50]).&{?Ok().X,?Busy().X}}";
 const OTHER: &[u8] = b"rec X.+{!Ask(int[0..200]).&{?Ok().X}}";
 
@@ -12,8 +12,10 @@ pub const WAITING: usize = 24 * LONGEST_MESSAGE;
 /// The bytes that are passed on together. Here too, room for the longest message is enough.
 pub const TOGETHER: usize = 4 * LONGEST_MESSAGE;
 
+/// How far from its share a branch may be before the page shows it: 2.00 standard deviations.
+const SETTING: u32 = 200;
+
 /// One conversation: its state, and the bytes that wait on either side.
-#[derive(Default)]
 pub struct Conversation {
     state: State,
     device: Vec<u8>,
@@ -21,6 +23,12 @@ pub struct Conversation {
 }
 
 impl Conversation {
+    /// A conversation begins.
+    pub fn begin(protocol: &Table) -> Conversation {
+        let state = protocol.fresh(SETTING).expect("a protocol that was read, and a legal setting");
+        Conversation { state, device: Vec::new(), host: Vec::new() }
+    }
+
     fn waiting(&mut self, side: Party) -> &mut Vec<u8> {
         match side {
             Party::Device => &mut self.device,
@@ -47,14 +55,14 @@ pub fn run(log: &mut dyn Write) -> io::Result<()> {
         return Ok(());
     }
     // The host is early, and the device's first message comes in two pieces.
-    let mut talk = Conversation::default();
+    let mut talk = Conversation::begin(&protocol);
     hear(&protocol, &mut talk, Party::Host, b"Ok\0\0\0\0\0\0\0", log)?;
     hear(&protocol, &mut talk, Party::Device, b"Ask\0\0\0\0\0\x01\0", log)?;
     hear(&protocol, &mut talk, Party::Device, b"\0\0\0\x07", log)?;
     assert!(!hear(&protocol, &mut talk, Party::Device, b"Ask\0\0\0\0\0\x01\0\0\0\0\x65", log)?);
     assert_eq!(talk.state.standing, Standing::DEVICE_BLAMED);
     // A device that speaks another language.
-    let mut strange = Conversation::default();
+    let mut strange = Conversation::begin(&protocol);
     assert!(!hear(&protocol, &mut strange, Party::Device, b"GET / HTTP/1.1\r\n", log)?);
     Ok(())
 }
@@ -125,14 +133,28 @@ fn pump(protocol: &Table, talk: &mut Conversation, log: &mut dyn Write) -> io::R
                 return Ok(false);
             }
             // None is due. Of 9 and 10 `turn` tells too.
-            _ => return may_go_on(protocol, talk, log),
+            _ => {
+                page(protocol, &talk.state, log)?;
+                return may_go_on(protocol, talk, log);
+            }
         }
     }
 }
 
+/// The tender's page, after each round: which branches are picked far too often or too seldom for their shares.
+fn page(protocol: &Table, state: &State, log: &mut dyn Write) -> io::Result<()> {
+    for branch in 0..protocol.branches {
+        let Ok(Warning { warns: true, sender, estimate: Some(estimate) }) = protocol.warning(state, branch) else {
+            continue;
+        };
+        writeln!(log, "branch {branch} of {sender:?}: {estimate} in 1000, not {}", protocol.share[branch as usize])?;
+    }
+    Ok(())
+}
+
 /// Nothing is due. Can it be once more bytes have come?
 fn may_go_on(protocol: &Table, talk: &mut Conversation, log: &mut dyn Write) -> io::Result<bool> {
-    let Ok(side) = protocol.turn(talk.state) else {
+    let Ok(side) = protocol.turn(&talk.state) else {
         return Ok(false);
     };
     if message::broken(talk.waiting(side)) {

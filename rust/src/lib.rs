@@ -6,16 +6,16 @@
 //! [`bench`](mod@bench) has what the proved code is timed against.
 //!
 //! ```
-//! use sojimu::{Party, State, Table, Verdict};
+//! use sojimu::{Party, Table, Verdict};
 //!
 //! let protocol = Table::read(b"rec X.+{!Ask(int[0..100]).&{?Ok().X},!Quit().end}")?;
-//! let mut state = State::fresh();
+//! let mut state = protocol.fresh(200)?;
 //! let mut out = [0; 300];
 //! let message = b"Ask\0\0\0\0\0\x01\0\0\0\0\x64";
 //! let verdict = protocol.step(&mut state, Party::Device, message, &mut out);
 //! assert_eq!(verdict, Verdict::Forwarded);
 //! assert_eq!(&out[..message.len()], message);
-//! # Ok::<(), sojimu::Refusal>(())
+//! # Ok::<(), Box<dyn std::error::Error>>(())
 //! ```
 
 #![deny(missing_docs)]

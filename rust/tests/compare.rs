@@ -2,7 +2,7 @@
 
 use sojimu::compare::KINDS;
 use sojimu::second::table::Raw;
-use sojimu::{Standing, State, Table};
+use sojimu::Table;
 
 #[test]
 fn they_agree() {
@@ -18,5 +18,4 @@ fn they_agree() {
 #[test]
 fn what_takes_nothing() {
     assert_eq!(Table::empty(), Table::from(&Raw::empty()));
-    assert_eq!(State::fresh(), State { position: 0, standing: Standing::RUNNING });
 }

@@ -1,14 +1,18 @@
-//! Every example of document 01, and those of the requests in document 02 that are built.
+//! Every example of document 01, and those of the requests in document 02 that are built; of request 4 every sentence, through both
+//! implementations.
 
+use sojimu::compare::{self, party, state_codes};
 use sojimu::second::batch::{batch, Batch};
 use sojimu::second::fit::{fit, shows_no_fit, Answer};
 use sojimu::second::machine::{self, Machine, Move};
 use sojimu::second::message;
-use sojimu::second::monitor::{due, step, Part, Reason, Side, Standing, State, Verdict};
+use sojimu::second::monitor::{awaited, due, step, Part, Reason, Side, Standing, State, Verdict};
 use sojimu::second::random::label_of;
 use sojimu::second::report::{report, report_in};
 use sojimu::second::table::{dual, sound, sound_at, Kind, Raw, Sort, Table};
 use sojimu::second::text::read;
+use sojimu::second::warning::{estimate, warning, Told};
+use sojimu::Question;
 
 const P: &[u8] = b"rec X.+{!Ask(int[0..100]).&{?Ok().X},!Quit().end}";
 const PINGS: &[u8] = b"rec X.+{!Ping().&{?Pong().X},!Quit().end}";
@@ -30,6 +34,16 @@ fn bare(label: &[u8]) -> Vec<u8> {
     let mut bytes = label_of(label).to_vec();
     bytes.push(0);
     bytes
+}
+
+/// The state of a conversation that begins.
+fn fresh(table: &Table) -> State {
+    State::fresh(table, 200).unwrap()
+}
+
+/// A state in which nothing is counted.
+fn at(table: &Table, position: usize, standing: Standing) -> State {
+    State { position, standing, ..fresh(table) }
 }
 
 // The twelve proved examples
@@ -56,31 +70,31 @@ fn a_range_of_one_reads() {
 
 #[test]
 fn ask_100_is_forwarded() {
-    let mut state = State::fresh();
+    let mut state = fresh(&table(P));
     let mut output = [0xEE; 20];
     assert_eq!(step(&table(P), &mut state, Side::Device, &ASK_100, &mut output), Verdict::Forwarded);
-    assert_eq!(state, State { position: 1, standing: Standing::Running });
+    assert_eq!((state.position, state.standing), (1, Standing::Running));
     assert_eq!(output[..14], ASK_100);
     assert_eq!(output[14..], [0xEE; 6]);
 }
 
 #[test]
 fn ask_101_blames_the_device() {
-    let mut state = State::fresh();
+    let mut state = fresh(&table(P));
     let mut output = [0xEE; 20];
     let verdict = step(&table(P), &mut state, Side::Device, &ask(101), &mut output);
     assert_eq!(verdict, Verdict::Blamed(Side::Device, Reason::Range(0)));
     assert_eq!(Reason::Range(0).number(), 3);
-    assert_eq!(state, State { position: 0, standing: Standing::DeviceBlamed });
+    assert_eq!(state, at(&table(P), 0, Standing::DeviceBlamed));
     assert_eq!(output, [0xEE; 20]);
 }
 
 #[test]
 fn ok_first_is_12() {
-    let mut state = State::fresh();
+    let mut state = fresh(&table(P));
     let mut output = [0xEE; 20];
     assert_eq!(step(&table(P), &mut state, Side::Host, &bare(b"Ok"), &mut output), Verdict::Refused(12));
-    assert_eq!(state, State::fresh());
+    assert_eq!(state, fresh(&table(P)));
     assert_eq!(output, [0xEE; 20]);
 }
 
@@ -175,7 +189,7 @@ fn the_empty_table_is_refused() {
     assert_eq!(message::make(&Table::empty(), 0, None, &mut []), Err(9));
     assert_eq!(fit(&Table::empty(), &table(P), &mut [0; 99]), Answer::Refused(9));
     assert_eq!(fit(&table(P), &Table::empty(), &mut [0; 99]), Answer::Refused(9));
-    let mut state = State::fresh();
+    let mut state = fresh(&table(P));
     assert_eq!(step(&Table::empty(), &mut state, Side::Device, &[], &mut []), Verdict::Refused(9));
     assert_eq!(due(&Table::empty(), &state, &ASK_100, &[]), Part { side: Side::Device, length: 0 });
 }
@@ -232,7 +246,7 @@ fn make_asks_9_18_16() {
 #[test]
 fn the_questions_of_a_step_in_their_order() {
     let p = table(P);
-    let at = |position, standing| State { position, standing };
+    let at = |position, standing| at(&p, position, standing);
     let ask = |mut state: State, side, message: &[u8], room: usize| {
         let before = state;
         let verdict = step(&p, &mut state, side, message, &mut vec![0; room]);
@@ -255,28 +269,28 @@ fn the_questions_of_a_step_in_their_order() {
 #[test]
 fn the_reasons() {
     let p = table(P);
-    let judged = |message: &[u8]| step(&p, &mut State::fresh(), Side::Device, message, &mut [0; 300]);
+    let judged = |message: &[u8]| step(&p, &mut fresh(&p), Side::Device, message, &mut [0; 300]);
     assert_eq!(judged(&bare(b"Ok")), Verdict::Blamed(Side::Device, Reason::Label));
     assert_eq!(judged(&bare(b"Ask")), Verdict::Blamed(Side::Device, Reason::Kinds));
     assert_eq!(judged(&ask(101)), Verdict::Blamed(Side::Device, Reason::Range(0)));
-    let mut host = State { position: 1, standing: Standing::Running };
+    let mut host = at(&p, 1, Standing::Running);
     let verdict = step(&p, &mut host, Side::Host, &bare(b"Busy"), &mut [0; 300]);
     assert_eq!(verdict, Verdict::Blamed(Side::Host, Reason::Label));
-    assert_eq!(host, State { position: 1, standing: Standing::HostBlamed });
+    assert_eq!(host, at(&p, 1, Standing::HostBlamed));
 }
 
 #[test]
 fn the_due_part() {
     let p = table(P);
-    let at = |position, standing| State { position, standing };
+    let at = |position, standing| at(&p, position, standing);
     let part = |side, length| Part { side, length };
     let mut device = ASK_100.to_vec();
     device.extend(ASK_100);
     let host = bare(b"Ok");
-    assert_eq!(due(&p, &State::fresh(), &device, &host), part(Side::Device, 14));
+    assert_eq!(due(&p, &fresh(&p), &device, &host), part(Side::Device, 14));
     assert_eq!(due(&p, &at(1, Standing::Running), &device, &host), part(Side::Host, 9));
     // Not all there, and 13: empty, at that side's start.
-    assert_eq!(due(&p, &State::fresh(), &device[..13], &host), part(Side::Device, 0));
+    assert_eq!(due(&p, &fresh(&p), &device[..13], &host), part(Side::Device, 0));
     assert_eq!(due(&p, &at(1, Standing::Running), &device, &host[..8]), part(Side::Host, 0));
     assert_eq!(due(&p, &at(1, Standing::Running), &device, b""), part(Side::Host, 0));
     // 9, 10 and 11: empty, at the device's start.
@@ -292,12 +306,12 @@ fn a_batch() {
     let p = table(P);
     let device = [ask(1), ask(101)].concat();
     let host = [bare(b"Ok"), bare(b"Ok")].concat();
-    let mut state = State::fresh();
+    let mut state = fresh(&p);
     let (mut to_device, mut to_host) = ([0xEE; 10], [0xEE; 28]);
     let blamed = Some(Verdict::Blamed(Side::Device, Reason::Range(0)));
     let wanted = Batch { used_device: 28, used_host: 9, written_to_device: 9, written_to_host: 14, last: blamed };
     assert_eq!(batch(&p, &mut state, &device, &host, &mut to_device, &mut to_host), wanted);
-    assert_eq!(state, State { position: 0, standing: Standing::DeviceBlamed });
+    assert_eq!((state.position, state.standing), (0, Standing::DeviceBlamed));
     assert_eq!((to_device[..9].to_vec(), to_device[9]), (bare(b"Ok"), 0xEE));
     assert_eq!((&to_host[..14], &to_host[14..]), (&ask(1)[..], &[0xEE; 14][..]));
 }
@@ -306,7 +320,7 @@ fn a_batch() {
 fn the_last_answer_of_a_batch() {
     let p = table(P);
     let last = |position, standing, device: &[u8], host: &[u8], room: usize| {
-        batch(&p, &mut State { position, standing }, device, host, &mut vec![0; room], &mut vec![0; room]).last
+        batch(&p, &mut at(&p, position, standing), device, host, &mut vec![0; room], &mut vec![0; room]).last
     };
     use Standing::{HostBlamed, Running};
     // With no step tried, none was due: early, not all there, at an end.
@@ -321,6 +335,429 @@ fn the_last_answer_of_a_batch() {
     // 9 and 10 are asked first.
     assert_eq!(last(3, HostBlamed, b"", b"", 0), Some(Verdict::Refused(9)));
     assert_eq!(last(2, HostBlamed, b"", b"", 0), Some(Verdict::Refused(10)));
+}
+
+// Document 02, request 4: shares on choices
+
+/// The shares that both read, 0 for none; or the question and the place.
+fn shares(text: &str) -> Result<Vec<u32>, (u8, usize)> {
+    let second = read(text.as_bytes());
+    let proved = sojimu::Table::read(text.as_bytes());
+    let words = proved.as_ref().map(Raw::from).map_err(|no| (no.question.0, no.at));
+    assert_eq!(words, second.as_ref().map(Raw::of).map_err(|no| *no), "{text}");
+    second.map(|table| table.branches.iter().map(|branch| branch.share.unwrap_or(0)).collect())
+}
+
+#[test]
+fn a_branch_may_carry_a_share() {
+    assert_eq!(shares("+{!A()@10.end,!B()@990.end}"), Ok(vec![10, 990]));
+    assert_eq!(shares("&{?A(int[0..1],flag[0..1])@1.end,?B()@999.end}"), Ok(vec![1, 999]));
+    assert_eq!(shares("+{!A()@1000.end}"), Ok(vec![1000]));
+    assert_eq!(shares("+{!A().end,!B().end}"), Ok(vec![0, 0]));
+    assert_eq!(shares("+{!A() @\n 10 .end,!B()@990\n.end}"), Ok(vec![10, 990]));
+    // After `)` alone, once, and a number.
+    assert_eq!(shares("+{!A@10().end}"), Err((3, 4)));
+    assert_eq!(shares("+{!A(@10).end}"), Err((3, 5)));
+    assert_eq!(shares("+{!A().@10end}"), Err((3, 7)));
+    assert_eq!(shares("+{!A()@10@990.end}"), Err((3, 9)));
+    assert_eq!(shares("+{!A()@.end}"), Err((3, 7)));
+    assert_eq!(shares("+{!A()@"), Err((3, 7)));
+    assert_eq!(shares("+{!A()10.end}"), Err((3, 6)));
+    assert_eq!(shares("+{!A()@1000,"), Err((3, 11)));
+    assert_eq!(shares("@"), Err((3, 0)));
+}
+
+#[test]
+fn shares_outside_1_to_1000() {
+    let text = |share: &str| format!("+{{!A()@{share}.end}}");
+    for share in ["0", "-5", "-1000", "1001", "2147483648", "4294967297", "18446744073709552616"] {
+        assert_eq!(shares(&text(share)), Err((19, 7)), "{share}");
+    }
+    assert_eq!(shares(&text(&"1".repeat(5000))), Err((19, 7)));
+    assert_eq!(shares(&text(&format!("-{}", "1".repeat(5000)))), Err((19, 7)));
+    assert_eq!(shares(&text("1000")), Ok(vec![1000]));
+    // 2 and 3 come before it.
+    for share in ["05", "00", "-0", "-", "-05"] {
+        assert_eq!(shares(&text(share)), Err((2, 7)), "{share}");
+    }
+    for share in ["A", "end", ".", "@", "(", "}"] {
+        assert_eq!(shares(&text(share)), Err((3, 7)), "{share}");
+    }
+    // So does what stands before it; and it comes before what stands after it.
+    assert_eq!(shares("+{!A(int[5..4])@0.end}"), Err((6, 12)));
+    assert_eq!(shares("+{!A(int[5..4294967296])@0.end}"), Err((6, 12)));
+    assert_eq!(shares("+{!A()@0.end,!A()@0.end}"), Err((19, 7)));
+    assert_eq!(shares("+{!A()@1.end,!A()@0.end}"), Err((7, 14)));
+    assert_eq!(shares("+{!A()@1.X,!B()@0.end}"), Err((4, 9)));
+    assert_eq!(shares("+{!A(int[0..1],int[0..1],int[0..1],int[0..1],int[0..1])@0.end}"), Err((8, 45)));
+}
+
+#[test]
+fn shares_of_a_choice() {
+    // Mixed, at the closing brace.
+    assert_eq!(shares("+{!A()@1000.end,!B().end}"), Err((20, 24)));
+    assert_eq!(shares("+{!A().end,!B()@1000.end}"), Err((20, 24)));
+    assert_eq!(shares("+{!A()@500.end,!B().end,!C()@500.end}"), Err((20, 36)));
+    // They do not add to 1000.
+    assert_eq!(shares("+{!A()@999.end}"), Err((20, 14)));
+    assert_eq!(shares("+{!A()@499.end,!B()@500.end}"), Err((20, 27)));
+    assert_eq!(shares("+{!A()@501.end,!B()@500.end}"), Err((20, 27)));
+    assert_eq!(shares("+{!A()@1000.end,!B()@1000.end}"), Err((20, 29)));
+    // It does not look ahead, and what stands before the brace is asked first.
+    assert_eq!(shares("+{!A()@999.end}#"), Err((20, 14)));
+    assert_eq!(shares("+{!A()@999.end"), Err((3, 14)));
+    let ends: Vec<String> = (0..32).map(|i| format!("!B{i}()@31.end")).collect();
+    let text = format!("+{{{}}}", ends.join(","));
+    assert_eq!(shares(&text), Err((8, text.len() - 4)));
+}
+
+#[test]
+fn each_choice_by_itself() {
+    let nested = "+{!A()@500.&{?C().end,?D().end},!B()@500.&{?E()@1.end,?F()@999.end}}";
+    assert_eq!(shares(nested), Ok(vec![500, 0, 0, 500, 1, 999]));
+    assert_eq!(shares("+{!A().&{?C()@1000.end},!B().end}"), Ok(vec![0, 1000, 0]));
+    assert_eq!(shares("+{!A()@500.&{?C()@999.end},!B()@500.end}"), Err((20, 25)));
+    assert_eq!(shares("+{!A()@500.&{?C()@500.end},!B()@500.end}"), Err((20, 25)));
+    assert_eq!(shares("+{!A()@500.&{?C()@1000.end},!B()@499.end}"), Err((20, 40)));
+    assert_eq!(shares("+{!A()@500.&{?C()@500.end,?D().end},!B()@500.end}"), Err((20, 34)));
+    assert_eq!(shares("rec X.+{!A()@500.rec Y.X,!B()@500.rec X.&{?A()@1000.X}}"), Ok(vec![500, 500, 1000]));
+}
+
+/// Is a table with these shares sound, as both say?
+fn sound_with(text: &[u8], shares: &[u32]) -> bool {
+    let mut raw = Raw::of(&table(text));
+    raw.share[..shares.len()].copy_from_slice(shares);
+    assert_eq!(sojimu::Table::from(&raw).sound(), raw.sound());
+    raw.sound()
+}
+
+#[test]
+fn question_9_asks_for_shares() {
+    let two = b"+{!A().end,!B().end}";
+    for right in [[0, 0], [10, 990], [999, 1]] {
+        assert!(sound_with(two, &right), "{right:?}");
+    }
+    for wrong in [[0, 1000], [1000, 0], [499, 500], [501, 500], [1001, 0], [1001, u32::MAX], [1 << 31, (1 << 31) + 1000]] {
+        assert!(!sound_with(two, &wrong), "{wrong:?}");
+    }
+    // Each choice by itself, and no more than the branches.
+    let choices = b"+{!A().&{?B().end}}";
+    assert!(sound_with(choices, &[1000, 0]) && sound_with(choices, &[0, 1000]) && sound_with(choices, &[1000, 1000]));
+    assert!(!sound_with(choices, &[500, 500]));
+    assert!(sound_with(choices, &[0, 0, 7]));
+    // Whatever takes a table asks it.
+    let mut raw = Raw::of(&table(two));
+    raw.share[0] = 1000;
+    let wrong = sojimu::Table::from(&raw);
+    let mut list = [0; 9];
+    assert_eq!((wrong.dual(), wrong.fresh(200)), (Err(Question(9)), Err(Question(9))));
+    assert_eq!(wrong.make(0, None, &mut [0; 9]), Err(Question(9)));
+    assert_eq!(wrong.fit(&wrong, &mut list), sojimu::Fitting::Refused(Question(9)));
+    assert_eq!(wrong.turn(&state_codes(&fresh(&table(two)))), Err(Question(9)));
+}
+
+/// A conversation in both implementations.
+struct Talk {
+    second: Table,
+    proved: sojimu::Table,
+    state: State,
+}
+
+impl Talk {
+    /// It begins; or the question that refuses it.
+    fn begin(text: &str, setting: u32) -> Result<Talk, u8> {
+        let second = table(text.as_bytes());
+        let proved = sojimu::Table::read(text.as_bytes()).unwrap();
+        let state = State::fresh(&second, setting);
+        let codes = state.as_ref().map(state_codes).map_err(|no| Question(*no));
+        assert_eq!(proved.fresh(setting), codes);
+        Ok(Talk { second, proved, state: state? })
+    }
+
+    fn say(&mut self, side: Side, message: &[u8]) -> Verdict {
+        let mut proved = state_codes(&self.state);
+        let told = self.proved.step(&mut proved, party(side), message, &mut [0; 300]);
+        let verdict = step(&self.second, &mut self.state, side, message, &mut [0; 300]);
+        assert_eq!((told, proved), (compare::verdict(verdict), state_codes(&self.state)));
+        verdict
+    }
+
+    /// Labels alone, each forwarded in its turn.
+    fn says(&mut self, labels: &[&str]) {
+        for label in labels {
+            let side = awaited(&self.second, &self.state).unwrap();
+            assert_eq!(self.say(side, &bare(label.as_bytes())), Verdict::Forwarded, "{label}");
+        }
+    }
+
+    fn batch(&mut self, device: &[u8], host: &[u8]) -> Batch {
+        let mut proved = state_codes(&self.state);
+        let told = self.proved.batch(&mut proved, device, host, &mut [0; 300], &mut [0; 300]);
+        let batch = batch(&self.second, &mut self.state, device, host, &mut [0; 300], &mut [0; 300]);
+        assert_eq!((told, proved), (compare::batch(batch), state_codes(&self.state)));
+        batch
+    }
+
+    fn warning(&self, branch: usize) -> Result<Told, u8> {
+        let told = warning(&self.second, &self.state, branch);
+        let proved = self.proved.warning(&state_codes(&self.state), branch as u32);
+        assert_eq!(proved, told.map(compare::warning).map_err(Question));
+        told
+    }
+
+    /// The question that every call refuses this state by, or 0: whose turn it is, a step, a batch, a warning, the due part.
+    fn refused(&mut self) -> u8 {
+        let question = awaited(&self.second, &self.state).err().unwrap_or(0);
+        let codes = state_codes(&self.state);
+        assert_eq!(self.proved.turn(&codes).err().map_or(0, |no| no.0), question);
+        let no = (question != 0).then_some(Verdict::Refused(question));
+        assert_eq!(self.say(Side::Device, b""), no.unwrap_or(Verdict::Refused(13)));
+        assert_eq!(self.batch(b"", b"").last, no);
+        assert_eq!(self.warning(0).err().unwrap_or(0), question);
+        let message = bare(b"A");
+        let length = if question == 0 { message.len() } else { 0 };
+        assert_eq!(due(&self.second, &self.state, &message, b""), Part { side: Side::Device, length });
+        assert_eq!(self.proved.due(&codes, &message, b"").message.len(), length);
+        question
+    }
+
+    /// The counts of the table's states and branches.
+    fn counts(&self) -> (&[u32], &[u32]) {
+        (&self.state.n[..self.second.states.len()], &self.state.k[..self.second.branches.len()])
+    }
+
+    /// Counts instead of those that messages make.
+    fn count(&mut self, n: &[u32], k: &[u32]) {
+        self.state.n[..n.len()].copy_from_slice(n);
+        self.state.k[..k.len()].copy_from_slice(k);
+    }
+}
+
+const SHARED: &str = "rec X.+{!Ask()@900.&{?Ok().X,?Busy().X},!Quit()@100.end}";
+
+#[test]
+fn conversations_are_made_with_a_setting() {
+    assert_eq!(Talk::begin(SHARED, 1).unwrap().state.setting, 1);
+    let talk = Talk::begin(SHARED, 1000).unwrap();
+    assert_eq!(talk.state, State { position: 0, standing: Standing::Running, setting: 1000, n: [0; 32], k: [0; 128] });
+    for setting in [0, 1001, 65536 + 200, u32::MAX] {
+        assert_eq!(Talk::begin(SHARED, setting).err(), Some(21), "{setting}");
+    }
+    // After 9.
+    assert_eq!(State::fresh(&Table::empty(), 0), Err(9));
+    assert_eq!(sojimu::Table::empty().fresh(0), Err(Question(9)));
+}
+
+#[test]
+fn forwarding_raises_the_counts() {
+    let mut talk = Talk::begin(SHARED, 200).unwrap();
+    talk.says(&["Ask", "Busy", "Ask", "Ok", "Ask", "Busy"]);
+    // Ask, Ok, Busy and Quit: those without a share, too.
+    assert_eq!(talk.counts(), (&[3, 3, 0][..], &[3, 1, 2, 0][..]));
+    talk.says(&["Quit"]);
+    assert_eq!(talk.counts(), (&[4, 3, 0][..], &[3, 1, 2, 1][..]));
+    assert_eq!(talk.say(Side::Device, &bare(b"Ask")), Verdict::Refused(11));
+    assert_eq!(talk.counts(), (&[4, 3, 0][..], &[3, 1, 2, 1][..]));
+}
+
+#[test]
+fn a_batch_raises_the_counts() {
+    let mut talk = Talk::begin(SHARED, 200).unwrap();
+    let device = [bare(b"Ask"), bare(b"Ask"), bare(b"Nope")].concat();
+    let last = talk.batch(&device, &[bare(b"Ok"), bare(b"Busy")].concat()).last;
+    assert_eq!(last, Some(Verdict::Blamed(Side::Device, Reason::Label)));
+    assert_eq!(talk.counts(), (&[2, 2, 0][..], &[2, 1, 1, 0][..]));
+}
+
+#[test]
+fn refusals_and_blames_raise_nothing() {
+    let mut talk = Talk::begin(SHARED, 200).unwrap();
+    talk.says(&["Ask"]);
+    let before = talk.state;
+    assert_eq!(talk.say(Side::Device, &bare(b"Ask")), Verdict::Refused(12));
+    assert_eq!(talk.say(Side::Host, b"Ok"), Verdict::Refused(13));
+    assert_eq!(talk.state, before);
+    assert_eq!(talk.say(Side::Host, &bare(b"Nope")), Verdict::Blamed(Side::Host, Reason::Label));
+    assert_eq!(talk.state, State { standing: Standing::HostBlamed, ..before });
+    assert_eq!(talk.say(Side::Host, &bare(b"Ok")), Verdict::Refused(10));
+    assert_eq!((talk.state.n, talk.state.k), (before.n, before.k));
+}
+
+#[test]
+fn counting_stops_at_10_000() {
+    let mut talk = Talk::begin(SHARED, 200).unwrap();
+    talk.count(&[9_999, 9_998], &[9_000, 9_990, 8, 999]);
+    talk.says(&["Ask", "Ok"]);
+    assert_eq!(talk.counts(), (&[10_000, 9_999, 0][..], &[9_001, 9_991, 8, 999][..]));
+    talk.says(&["Ask", "Busy", "Ask", "Ok", "Quit"]);
+    assert_eq!(talk.counts(), (&[10_000, 10_000, 0][..], &[9_001, 9_991, 9, 999][..]));
+    assert_eq!((talk.state.position, talk.state.standing), (2, Standing::Running));
+    // In a batch, too.
+    let mut talk = Talk::begin(SHARED, 200).unwrap();
+    talk.count(&[9_999, 10_000], &[9_999, 0, 10_000, 0]);
+    let batch = talk.batch(&bare(b"Ask").repeat(3), &bare(b"Ok").repeat(3));
+    assert_eq!((batch.used_device, batch.used_host), (27, 27));
+    assert_eq!(talk.counts(), (&[10_000, 10_000, 0][..], &[10_000, 0, 10_000, 0][..]));
+}
+
+#[test]
+fn question_9_asks_for_counts() {
+    let refused = |setting: u32, n: &[u32], k: &[u32]| {
+        let mut talk = Talk::begin("rec X.+{!A()@500.X,!B()@500.&{?C().end}}", 200).unwrap();
+        talk.count(n, k);
+        talk.state.setting = setting;
+        talk.refused()
+    };
+    assert_eq!(refused(200, &[7, 2], &[3, 4, 2]), 0);
+    assert_eq!(refused(1000, &[10_000, 10_000], &[10_000, 0, 10_000]), 0);
+    // A choice's k do not add up to its n.
+    for (n, k) in [([8, 2], [3, 4, 2]), ([7, 2], [3, 3, 2]), ([7, 2], [3, 4, 1]), ([7, 2], [3, 5, 1]), ([0, 1], [0, 0, 0])] {
+        assert_eq!(refused(200, &n, &k), 9, "{n:?} {k:?}");
+    }
+    // n is above 10,000, or the sum is as much more as sixteen bits do not tell.
+    assert_eq!(refused(200, &[10_001, 0], &[10_000, 1, 0]), 9);
+    assert_eq!(refused(200, &[65_535, 0], &[65_535, 0, 0]), 9);
+    assert_eq!(refused(200, &[0, 10_001], &[0, 0, 10_001]), 9);
+    assert_eq!(refused(200, &[7, 0], &[32_771, 32_772, 0]), 9);
+    for setting in [0, 1001, 65_535] {
+        assert_eq!(refused(setting, &[7, 2], &[3, 4, 2]), 9, "{setting}");
+    }
+    // What belongs to no choice of the table does no harm.
+    assert_eq!(refused(200, &[7, 2, 65_535, 65_535], &[3, 4, 2, 65_535]), 0);
+}
+
+#[test]
+fn question_9_comes_before_10() {
+    let mut talk = Talk::begin(SHARED, 200).unwrap();
+    talk.state.standing = Standing::HostBlamed;
+    assert_eq!(awaited(&talk.second, &talk.state), Err(10));
+    talk.state.n[0] = 1;
+    assert_eq!(awaited(&talk.second, &talk.state), Err(9));
+    assert_eq!(talk.batch(b"", b"").last, Some(Verdict::Refused(9)));
+    // A warning asks for no standing.
+    assert_eq!(talk.warning(0), Err(9));
+    talk.state.n[0] = 0;
+    assert!(talk.warning(0).is_ok());
+}
+
+/// With share w, the setting z, n and k: does the branch warn?
+fn warns(w: u32, z: u32, n: u32, k: u32) -> bool {
+    let text = if w == 1000 { "+{!A()@1000.end}".into() } else { format!("+{{!A()@{w}.end,!B()@{}.end}}", 1000 - w) };
+    let mut talk = Talk::begin(&text, z).unwrap();
+    talk.count(&[n], &[k, n - k]);
+    talk.warning(0).unwrap().warns
+}
+
+#[test]
+fn a_branch_warns() {
+    // Document 02's example.
+    assert!(warns(10, 442, 6, 2));
+    // Source document 000's, with z = 4.42, and 1.96 at which it would warn earlier.
+    assert!(!warns(200, 442, 9, 5));
+    assert!(warns(200, 442, 17, 13));
+    assert!(warns(200, 196, 9, 5));
+    // Too seldom, too.
+    assert!(warns(900, 200, 100, 80) && !warns(900, 200, 100, 90));
+    // The edge is inside: 10,000 x (4,000 - 2,000)^2 = 200^2 x 500 x 500 x 4.
+    assert!(!warns(500, 200, 4, 4) && warns(500, 199, 4, 4));
+    assert!(!warns(500, 200, 4, 0) && warns(500, 199, 4, 0));
+    assert!(!warns(500, 200, 10_000, 5_100) && warns(500, 200, 10_000, 5_101) && warns(500, 199, 10_000, 5_100));
+    // Nothing counted, or all of the only branch.
+    assert!(!warns(1, 1, 0, 0) && !warns(1000, 1, 0, 0) && !warns(1000, 1, 10_000, 10_000));
+    // The largest numbers that the rule meets.
+    assert!(warns(1, 1000, 10_000, 10_000) && warns(999, 1000, 10_000, 0) && !warns(999, 1000, 10_000, 10_000));
+}
+
+#[test]
+fn what_a_warning_tells() {
+    let text = "rec X.+{!A()@10.&{?C()@1.X,?D()@999.X},!B()@989.X,!E()@1.end}";
+    let mut talk = Talk::begin(text, 442).unwrap();
+    let told = |warns, sender, estimate| Ok(Told { warns, sender, estimate });
+    // While n is 0 there is no estimate.
+    assert_eq!(talk.warning(0), told(false, Side::Device, None));
+    talk.count(&[6, 2], &[2, 2, 0, 4, 0]);
+    assert_eq!(talk.warning(0), told(true, Side::Device, Some(333)));
+    assert_eq!(talk.warning(1), told(true, Side::Host, Some(1000)));
+    assert_eq!(talk.warning(2), told(true, Side::Host, Some(0)));
+    assert_eq!(talk.warning(3), told(true, Side::Device, Some(667)));
+    // 18: the branches are five.
+    assert_eq!(talk.warning(5), Err(18));
+    assert_eq!(talk.warning(127), Err(18));
+    assert_eq!(talk.proved.warning(&state_codes(&talk.state), u32::MAX), Err(Question(18)));
+    // After 9.
+    talk.state.position = 3;
+    assert_eq!(talk.warning(5), Err(9));
+}
+
+#[test]
+fn a_branch_without_a_share_never_warns() {
+    let mut talk = Talk::begin("rec X.+{!A().X,!B().X}", 1).unwrap();
+    for (n, k) in [(1, 0), (1, 1), (10_000, 0), (10_000, 10_000)] {
+        talk.count(&[n], &[k, n - k]);
+        let told = talk.warning(0).unwrap();
+        assert_eq!((told.warns, told.estimate), (false, Some(1000 * k / n)));
+    }
+}
+
+#[test]
+fn estimates() {
+    let mut talk = Talk::begin("+{!A().end,!B().end}", 200).unwrap();
+    // Halves up: 62.5, 187.5, 0.5, 999.5.
+    let halves = [(16, 1, 63), (16, 3, 188), (10_000, 5, 1), (10_000, 9_995, 1000)];
+    let others =
+        [(3, 1, 333), (3, 2, 667), (10_000, 4, 0), (10_000, 9_994, 999), (7, 7, 1000), (7, 0, 0), (9_999, 9_998, 1000)];
+    for (n, k, wanted) in halves.into_iter().chain(others) {
+        talk.count(&[n], &[k, n - k]);
+        assert_eq!(talk.warning(0).unwrap().estimate, Some(wanted), "{k} of {n}");
+        assert_eq!(estimate(n.into(), k.into()), Some(wanted));
+    }
+}
+
+#[test]
+fn a_warning_is_taken_back() {
+    let mut talk = Talk::begin("rec X.+{!A()@500.X,!B()@500.X}", 200).unwrap();
+    talk.says(&["A", "A", "A", "A"]);
+    assert!(!talk.warning(0).unwrap().warns);
+    talk.says(&["A"]);
+    assert!(talk.warning(0).unwrap().warns && talk.warning(1).unwrap().warns);
+    talk.says(&["B"]);
+    assert!(!talk.warning(0).unwrap().warns && !talk.warning(1).unwrap().warns);
+}
+
+#[test]
+fn forwarding_blame_and_fit_take_no_notice() {
+    let plain = "rec X.+{!Ask().&{?Ok().X,?Busy().X},!Quit().end}";
+    for labels in [&["Ask", "Ok", "Ask", "Busy", "Quit", "Quit"][..], &["Nope", "Ask"], &["Ask", "Nope"], &["Ask", "Ask"]] {
+        let (mut one, mut other) = (Talk::begin(SHARED, 1).unwrap(), Talk::begin(plain, 1).unwrap());
+        for label in labels {
+            let side = awaited(&one.second, &one.state).unwrap_or(Side::Device);
+            assert_eq!(one.say(side, &bare(label.as_bytes())), other.say(side, &bare(label.as_bytes())));
+            assert_eq!(one.state, other.state);
+        }
+    }
+    let fits = |device: &str, protocol: &str| {
+        let mut list = [7; 9];
+        let proved = sojimu::Table::read(device.as_bytes()).unwrap();
+        let told = proved.fit(&sojimu::Table::read(protocol.as_bytes()).unwrap(), &mut list);
+        assert_eq!(told, sojimu::Fitting::Fits { pairs: 3 });
+        fit(&table(device.as_bytes()), &table(protocol.as_bytes()), &mut list)
+    };
+    let other = SHARED.replace("900", "1").replace("100", "999");
+    for (device, protocol) in [(SHARED, plain), (plain, SHARED), (SHARED, &other)] {
+        assert_eq!(fits(device, protocol), Answer::Fits(3));
+    }
+    assert_eq!(sojimu::report(SHARED.as_bytes(), b"end"), report(plain.as_bytes(), b"end"));
+}
+
+#[test]
+fn the_dual_keeps_shares() {
+    let once = dual(&table(SHARED.as_bytes())).unwrap();
+    assert_eq!(once.branches, table(SHARED.as_bytes()).branches);
+    let proved = sojimu::Table::read(SHARED.as_bytes()).unwrap().dual().unwrap();
+    assert_eq!(Raw::from(&proved), Raw::of(&once));
+    // The choice is the host's then.
+    let talk = Talk { state: fresh(&once), second: once, proved };
+    assert_eq!(talk.warning(0).unwrap().sender, Side::Host);
 }
 
 // Device and monitor together

@@ -44,7 +44,7 @@ fn the_c_program() {
 /// What the gateway logs of one side's bytes, in pieces of some length, and whether the conversation goes on.
 fn heard(protocol: &[u8], side: Party, bytes: &[u8], piece: usize) -> (String, bool) {
     let protocol = Table::read(protocol).unwrap();
-    let (mut talk, mut log) = (Conversation::default(), Vec::new());
+    let (mut talk, mut log) = (Conversation::begin(&protocol), Vec::new());
     let goes_on = bytes.chunks(piece).all(|piece| hear(&protocol, &mut talk, side, piece, &mut log).unwrap());
     (String::from_utf8(log).unwrap(), goes_on)
 }

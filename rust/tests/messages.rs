@@ -5,7 +5,7 @@ use sojimu::message::{encode, front, has_label, label, refusal, Field, LONGEST_T
 use sojimu::second::message::{read, Message};
 use sojimu::second::random::{kind, label_of, number_of, Random};
 use sojimu::second::table::{legal_label, Kind, Label};
-use sojimu::{Party, Question, State, Table, Verdict, LONGEST_MESSAGE, MOST_FIELDS};
+use sojimu::{Party, Question, Table, Verdict, LONGEST_MESSAGE, MOST_FIELDS};
 
 /// A name that is mostly a label's: a capital, then letters and digits, eight at the most.
 fn name(random: &mut Random) -> String {
@@ -115,7 +115,7 @@ fn the_longest_message() {
 #[test]
 fn a_conversation_that_is_written() {
     let protocol = Table::read(b"+{!Say(text[1..9],int[-5..5],flag[0..1]).&{?Ok().end}}").unwrap();
-    let (mut state, mut out) = (State::fresh(), [0; LONGEST_MESSAGE]);
+    let (mut state, mut out) = (protocol.fresh(200).unwrap(), [0; LONGEST_MESSAGE]);
     let mut say = |side, name, fields: &[Field]| {
         let mut message = [0; LONGEST_MESSAGE];
         let length = encode(label(name).unwrap(), fields, &mut message).unwrap();

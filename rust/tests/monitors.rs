@@ -3,19 +3,24 @@
 use sojimu::bench::by_hand::{self, Pass, Place};
 use sojimu::bench::inputs::{scanner, small, Input};
 use sojimu::bench::plain;
-use sojimu::compare::{self, party, verdict};
+use sojimu::compare::{self, party, state_codes, verdict};
 use sojimu::second::random::*;
-use sojimu::second::table::Raw;
+use sojimu::second::table::{self, Raw};
 use sojimu::second::{batch, message, monitor, text};
-use sojimu::{Question, Standing, State, Table};
+use sojimu::{Question, Standing, Table};
 
 /// Where the scanner's conversation is at a state of its table.
-fn pass(state: monitor::State) -> Pass {
+fn pass(state: &monitor::State) -> Pass {
     let passes = [Pass::Idle, Pass::Started, Pass::Scanning, Pass::AtEdge, Pass::Over, Pass::Over];
     match state.standing {
         monitor::Standing::Running => passes[state.position],
         monitor::Standing::DeviceBlamed | monitor::Standing::HostBlamed => Pass::Stopped,
     }
+}
+
+/// The state of a conversation that begins.
+fn begun(lists: &table::Table) -> monitor::State {
+    monitor::State::fresh(lists, 200).unwrap()
 }
 
 #[test]
@@ -26,16 +31,17 @@ fn the_plain_monitor() {
         let lists = sound_table(&mut random, states, branches);
         let columns = with_noise(&mut random, &Raw::of(&lists));
         let table = Table::from(&columns);
-        let (mut state, mut second) = (State::fresh(), monitor::State::fresh());
+        let mut second = if random.one_in(2) { begun(&lists) } else { state_at(&mut random, &lists, 0) };
+        let mut state = state_codes(&second);
         for turn in conversation(&mut random, &lists, 30, 8) {
             let (mut out, mut other) = (vec![0xEE; turn.room], vec![0xEE; turn.room]);
             let one = plain::step(&table, &mut state, party(turn.side), &turn.message, &mut out);
             let wanted = monitor::step(&lists, &mut second, turn.side, &turn.message, &mut other);
             assert_eq!((one, out), (verdict(wanted), other), "seed {seed}");
-            assert_eq!(usize::from(state.position), second.position);
+            assert_eq!(state, state_codes(&second), "seed {seed}");
             let (device, host) = (waiting(&mut random, &lists), waiting(&mut random, &lists));
             let part = monitor::due(&lists, &second, &device, &host);
-            let due = plain::due(&table, state, &device, &host);
+            let due = plain::due(&table, &state, &device, &host);
             assert_eq!((due.side, due.message.len()), (party(part.side), part.length), "seed {seed}");
         }
         for branch in 0..=lists.branches.len() {
@@ -54,11 +60,36 @@ fn the_plain_monitor() {
 }
 
 #[test]
+fn the_plain_monitors_counts() {
+    let mut counts = [0; 2];
+    for seed in 0..4000 {
+        let mut random = Random::new(seed);
+        let lists = sound_table(&mut random, 6, 12);
+        let position = random.below(lists.states.len());
+        let mut second = state_at(&mut random, &lists, position);
+        if random.one_in(2) {
+            second = damaged_counts(&mut random, &lists, &second);
+        }
+        let (mut state, before) = (state_codes(&second), state_codes(&second));
+        let side = monitor::turn(lists.states[position]).unwrap_or(monitor::Side::Device);
+        let message = message_for(&mut random, &lists, position);
+        let table = Table::from(&Raw::of(&lists));
+        let one = plain::step(&table, &mut state, party(side), &message, &mut [0; 300]);
+        let wanted = monitor::step(&lists, &mut second, side, &message, &mut [0; 300]);
+        let left = if matches!(wanted, monitor::Verdict::Refused(_)) { before } else { state_codes(&second) };
+        assert_eq!((one, state), (verdict(wanted), left), "seed {seed}");
+        counts[usize::from(wanted == monitor::Verdict::Refused(9))] += 1;
+    }
+    println!("9 gets a yes {}, a no {}", counts[0], counts[1]);
+    assert!(counts[0] > 1000 && counts[1] > 1000);
+}
+
+#[test]
 fn the_monitor_written_by_hand() {
     let lists = text::read(&small().text).unwrap();
     for seed in 0..400 {
         let mut random = Random::new(seed);
-        let (mut place, mut second) = (Place::Asking, monitor::State::fresh());
+        let (mut place, mut second) = (Place::Asking, begun(&lists));
         for turn in conversation(&mut random, &lists, 30, 6) {
             let (mut out, mut other) = (vec![0xEE; turn.room], vec![0xEE; turn.room]);
             let one = by_hand::step(&mut place, party(turn.side), &turn.message, &mut out);
@@ -75,8 +106,8 @@ fn the_scanners_monitor_written_by_hand() {
         let mut random = Random::new(seed);
         let position = random.below(lists.states.len());
         let standing = if random.one_in(20) { monitor::Standing::HostBlamed } else { monitor::Standing::Running };
-        let mut state = monitor::State { position, standing };
-        let mut place = pass(state);
+        let mut state = monitor::State { standing, ..state_at(&mut random, &lists, position) };
+        let mut place = pass(&state);
         let (messages, faults) = (*random.pick(&[2, 10, 100]), *random.pick(&[0, 4, 30]));
         let Waiting { mut device, mut host } = walk(&mut random, &lists, position, messages, faults);
         ragged(&mut random, &lists, &mut device);
@@ -88,7 +119,7 @@ fn the_scanners_monitor_written_by_hand() {
         let one = by_hand::scan(&mut place, &device, &host, to_device, to_host);
         let [to_device, to_host] = &mut others;
         let wanted = batch::batch(&lists, &mut state, &device, &host, to_device, to_host);
-        assert_eq!((one, place), (compare::batch(wanted), pass(state)), "seed {seed}");
+        assert_eq!((one, place), (compare::batch(wanted), pass(&state)), "seed {seed}");
         assert_eq!(outputs, others, "seed {seed}");
     }
 }

@@ -1,15 +1,17 @@
-//! Random texts, tables, messages, conversations and batches through the second implementation: what the documents say of all of them.
+//! Random texts, tables, states, messages, conversations and batches through the second implementation: what the documents say of
+//! all of them.
 
 use sojimu::second::batch::{batch, Batch};
 use sojimu::second::brute::explore;
 use sojimu::second::fit::{fit, right, shows_no_fit, Answer};
 use sojimu::second::machine::{saying, says};
-use sojimu::second::monitor::{due, judge, step, Side, Standing, State, Verdict};
+use sojimu::second::monitor::{due, judge, state_sound, step, Side, Standing, State, Verdict, MOST_COUNTED};
 use sojimu::second::random::*;
 use sojimu::second::report::report;
 use sojimu::second::substituted::{means, refused};
 use sojimu::second::table::{dual, sound, Raw, Sort, Table};
 use sojimu::second::tree::{split, tree};
+use sojimu::second::warning::warning;
 use sojimu::second::{message, text};
 
 /// How many of each; more with the variable `ROUNDS`.
@@ -20,7 +22,7 @@ fn rounds(usual: u64) -> u64 {
 
 #[test]
 fn legal_texts_are_read() {
-    let (mut states, mut branches, mut longest) = (0, 0, 0);
+    let (mut states, mut branches, mut longest, mut shares) = (0, 0, 0, 0);
     for seed in 0..rounds(3000) {
         let mut random = Random::new(seed);
         let text = legal_text(&mut random);
@@ -29,10 +31,11 @@ fn legal_texts_are_read() {
         states = states.max(table.states.len());
         branches = branches.max(table.branches.len());
         longest = longest.max(text.len());
+        shares += usize::from(table.branches.iter().any(|branch| branch.share.is_some()));
     }
-    println!("most states {states}, most branches {branches}, longest {longest}");
+    println!("most states {states}, most branches {branches}, longest {longest}, with shares {shares}");
     assert_eq!(states, 32);
-    assert!(branches > 100);
+    assert!(branches > 100 && shares > 500);
 }
 
 #[test]
@@ -48,7 +51,7 @@ fn blanks_mean_nothing() {
 #[test]
 fn names_mean_what_substitution_says() {
     let limits = Limits { states: 8, branches: 10, fields: 1, open: 7 };
-    let (mut counts, mut moved) = ([0; 9], 0);
+    let (mut counts, mut moved) = ([0; 21], 0);
     for seed in 0..rounds(4000) {
         let mut random = Random::new(seed);
         let mut tokens = tokens(&mut random, limits);
@@ -76,7 +79,7 @@ fn names_mean_what_substitution_says() {
             Err((question, _)) => counts[usize::from(question)] += 1,
         }
     }
-    println!("read, and refused by 1 to 8: {counts:?}; {moved} mean something else with another target");
+    println!("read, and refused by their numbers: {counts:?}; {moved} mean something else with another target");
     assert!(counts[0] > 1000 && counts[4] > 100 && counts[5] > 100 && moved > 500, "{counts:?}, {moved}");
 }
 
@@ -91,7 +94,7 @@ fn one_target_moved(random: &mut Random, table: &Table) -> Option<Table> {
 
 #[test]
 fn texts_of_any_sort() {
-    let mut counts = [0; 9];
+    let mut counts = [0; 21];
     for seed in 0..rounds(20_000) {
         let text = any_text(&mut Random::new(seed));
         match text::read(&text) {
@@ -106,8 +109,8 @@ fn texts_of_any_sort() {
             }
         }
     }
-    println!("read, and refused by 1 to 8: {counts:?}");
-    assert!(counts.iter().all(|&count| count > 20), "{counts:?}");
+    println!("read, and refused by their numbers: {counts:?}");
+    assert!([0, 1, 2, 3, 4, 5, 6, 7, 8, 19, 20].into_iter().all(|question| counts[question] > 20), "{counts:?}");
 }
 
 #[test]
@@ -181,7 +184,8 @@ fn messages_of_any_sort() {
                 assert_eq!(message.bytes(), bytes);
                 assert_eq!(message.length(), bytes.len());
                 // The reasons of the monitor and the machine's rule agree.
-                assert_eq!(judge(&table, state, &message).ok(), saying(&table, state, &message).map(|branch| branch.target));
+                let judged = judge(&table, state, &message).ok().map(|b| &table.branches[b]);
+                assert_eq!(judged, saying(&table, state, &message));
             }
             Err(question) => counts[usize::from(question)] += 1,
         }
@@ -235,6 +239,11 @@ fn broken_bytes() {
     assert!(broken > 1000 && more > 1000);
 }
 
+/// The state of a conversation that begins.
+fn begun(table: &Table) -> State {
+    State::fresh(table, 200).unwrap()
+}
+
 #[test]
 fn conversations() {
     let mut refused = [0; 17];
@@ -244,7 +253,7 @@ fn conversations() {
         let mut random = Random::new(seed);
         let table = if random.one_in(4) { sound_table(&mut random, 8, 20) } else { endless_table(&mut random, 8, 20) };
         let faults = *random.pick(&[0, 4, 20, 100]);
-        let mut state = State::fresh();
+        let mut state = begun(&table);
         for turn in conversation(&mut random, &table, 60, faults) {
             let before = state;
             let mut output = vec![0xEE; turn.room];
@@ -288,13 +297,90 @@ fn conversations() {
 }
 
 #[test]
+fn counts_and_their_damage() {
+    let (mut full, mut damaged) = (0, [0; 2]);
+    for seed in 0..rounds(4000) {
+        let mut random = Random::new(seed);
+        let table = sound_table(&mut random, 6, 12);
+        let state = state_at(&mut random, &table, 0);
+        assert!(state_sound(&table, &state), "seed {seed}");
+        full += usize::from(state.n[..table.states.len()].contains(&MOST_COUNTED));
+        let other = damaged_counts(&mut random, &table, &state);
+        damaged[usize::from(state_sound(&table, &other))] += 1;
+        let numbers = other.n.iter().chain(&other.k).chain([&other.setting]);
+        assert!(numbers.into_iter().all(|&number| number < 1 << 16), "seed {seed}");
+    }
+    println!("with an n of 10,000 {full}; damaged {}, and sound {}", damaged[0], damaged[1]);
+    assert!(full > 500 && damaged[0] > 1000 && damaged[1] > 100);
+}
+
+#[test]
+fn messages_are_counted() {
+    let (mut raised, mut full) = (0, 0);
+    for seed in 0..rounds(600) {
+        let mut random = Random::new(seed);
+        let table = endless_table(&mut random, 4, 8);
+        let mut state = state_at(&mut random, &table, 0);
+        let mut wanted = state;
+        for turn in conversation(&mut random, &table, 40, 20) {
+            let position = state.position;
+            if step(&table, &mut state, turn.side, &turn.message, &mut vec![0; turn.room]) == Verdict::Forwarded {
+                let own = table.branches_of(position);
+                let branch = own.into_iter().find(|&b| turn.message.starts_with(&table.branches[b].label)).unwrap();
+                let counted = wanted.n[position] < 10_000;
+                wanted.n[position] += u32::from(counted);
+                wanted.k[branch] += u32::from(counted);
+                *(if counted { &mut raised } else { &mut full }) += 1;
+            }
+            assert_eq!((state.n, state.k, state.setting), (wanted.n, wanted.k, wanted.setting), "seed {seed}");
+            assert!(state_sound(&table, &state), "seed {seed}");
+        }
+    }
+    println!("counted {raised}, not counted {full}");
+    assert!(raised > 1000 && full > 1000);
+}
+
+#[test]
+fn warnings_are_those_of_the_confidence_interval() {
+    let (mut warns, mut calm, mut without) = (0, 0, 0);
+    for seed in 0..rounds(2000) {
+        let mut random = Random::new(seed);
+        let table = sound_table(&mut random, 6, 12);
+        let state = state_at(&mut random, &table, 0);
+        for (b, branch) in table.branches.iter().enumerate() {
+            let told = warning(&table, &state, b).unwrap();
+            let (n, k) = (f64::from(state.n[branch.owner]), f64::from(state.k[b]));
+            match told.estimate {
+                None => assert_eq!(n, 0.0, "seed {seed}"),
+                Some(estimate) => assert_eq!(f64::from(estimate), (1000.0 * k / n + 0.5).floor(), "seed {seed}"),
+            }
+            let (Some(share), true) = (branch.share, n > 0.0) else {
+                without += 1;
+                assert!(!told.warns, "seed {seed}");
+                continue;
+            };
+            // Source document 000: the estimate leaves the interval around the share by more than z standard errors.
+            let share = f64::from(share) / 1000.0;
+            let error = f64::from(state.setting) / 100.0 * (share * (1.0 - share) / n).sqrt();
+            let off = (k / n - share).abs();
+            if (off - error).abs() > 1e-9 {
+                assert_eq!(told.warns, off > error, "seed {seed}, branch {b}");
+            }
+            *(if told.warns { &mut warns } else { &mut calm }) += 1;
+        }
+    }
+    println!("warns {warns}, does not {calm}, no share or nothing counted {without}");
+    assert!(warns > 500 && calm > 500 && without > 500);
+}
+
+#[test]
 fn due_parts() {
     let (mut found, mut nothing) = (0, 0);
     for seed in 0..rounds(4000) {
         let mut random = Random::new(seed);
         let table = sound_table(&mut random, 6, 12);
         let standing = *random.pick(&[Standing::Running, Standing::Running, Standing::DeviceBlamed, Standing::HostBlamed]);
-        let state = State { position: random.below(table.states.len() + 1), standing };
+        let state = State { position: random.below(table.states.len() + 1), standing, ..begun(&table) };
         let (device, host) = (waiting(&mut random, &table), waiting(&mut random, &table));
         let part = due(&table, &state, &device, &host);
         // The first message is the only beginning of the bytes that 13, 14 and 15 do not refuse.
@@ -320,7 +406,8 @@ fn batches() {
     for seed in 0..rounds(600) {
         let mut random = Random::new(seed);
         let table = if random.one_in(4) { sound_table(&mut random, 8, 20) } else { endless_table(&mut random, 8, 20) };
-        let start = State { position: random.below(table.states.len()), standing: Standing::Running };
+        let position = random.below(table.states.len());
+        let start = state_at(&mut random, &table, position);
         let faults = *random.pick(&[0, 4, 40]);
         let Waiting { device, host } = walk(&mut random, &table, start.position, 60, faults);
         let (mut to_device, mut to_host) = (vec![0xEE; host.len()], vec![0xEE; device.len()]);
@@ -380,7 +467,7 @@ fn first_message(bytes: &[u8]) -> usize {
 #[test]
 fn the_fit_check_and_the_machine() {
     let (mut fitting, mut failing, mut moves_at_most, mut highs) = (0, 0, 0, 0);
-    for seed in 0..rounds(3000) {
+    for seed in 0..rounds(5000) {
         let mut random = Random::new(seed);
         let (device, protocol) = table_pair(&mut random, 5, 7);
         let found = explore(&device, &protocol);

@@ -2,6 +2,9 @@
 
 use crate::proved::{Party, State, Table};
 
+/// The setting of every conversation, in hundredths.
+pub const SETTING: u32 = 200;
+
 /// A protocol's text, and the branches of a way that comes back to where it began.
 pub struct Input {
     /// What it is called.
@@ -84,6 +87,25 @@ impl Input {
         Table::read(&self.text).expect("a legal text")
     }
 
+    /// The same with shares: each choice's are alike, but for what is left over, which its first branch has.
+    ///
+    /// ```
+    /// assert!(sojimu::bench::inputs::Input::all().iter().all(|input| input.shared().sound()));
+    /// ```
+    pub fn shared(&self) -> Table {
+        let mut table = self.table();
+        let owners = table.owner[..table.branches as usize].to_vec();
+        for choice in 0..table.states {
+            let own: Vec<usize> = (0..owners.len()).filter(|&branch| owners[branch] == choice).collect();
+            let each = 1000 / own.len().max(1) as u32;
+            own.iter().for_each(|&branch| table.share[branch] = each);
+            if let Some(&first) = own.first() {
+                table.share[first] = 1000 - each * (own.len() as u32 - 1);
+            }
+        }
+        table
+    }
+
     /// The state at the round's beginning, and the round's messages with their sides.
     ///
     /// ```
@@ -95,13 +117,13 @@ impl Input {
     /// ```
     pub fn conversation(&self) -> (State, Vec<(Party, Vec<u8>)>) {
         let table = self.table();
-        let mut state = State::fresh();
+        let mut state = table.fresh(SETTING).expect("a table that was read");
         let mut out = [0; 300];
         let mut say = |branch: u32, state: &mut State| {
             let mut message = vec![0; 300];
             let length = table.make(branch, None, &mut message).expect("a branch");
             message.truncate(length);
-            let side = table.turn(*state).expect("no end");
+            let side = table.turn(state).expect("no end");
             table.step(state, side, &message, &mut out);
             (side, message)
         };
@@ -110,7 +132,7 @@ impl Input {
         }
         let start = state;
         let round = self.round.iter().map(|&branch| say(branch, &mut state)).collect();
-        assert_eq!(state, start, "{}: the round comes back", self.name);
+        assert_eq!(state.position, start.position, "{}: the round comes back", self.name);
         (start, round)
     }
 }

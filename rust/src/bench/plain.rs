@@ -1,6 +1,9 @@
-//! A monitor over the same tables in plain safe Rust: the questions of document 01, asked as a Rust programmer would.
+//! A monitor over the same tables and states in plain safe Rust: the questions of the documents, asked as a Rust programmer would.
 
 use crate::proved::{Due, Party, Question, Reason, Standing, State, Table, Verdict, MOST_BRANCHES, MOST_FIELDS, MOST_STATES};
+
+/// The most that n is raised to.
+const MOST_COUNTED: u16 = 10_000;
 
 /// Question 9: is the table sound?
 pub fn sound(table: &Table) -> bool {
@@ -22,6 +25,23 @@ pub fn sound(table: &Table) -> bool {
         && high.iter().zip(low).all(|(&high, &low)| legal_label(u64::from(high) << 32 | u64::from(low)))
         && (0..branches).all(|branch| ranges_legal(table, branch))
         && labels_differ(owner, high, low)
+        && shares_right(owner, &table.share[..branches])
+}
+
+/// The branches of a choice have no shares, or each has one, and they add to 1000.
+fn shares_right(owner: &[u32], share: &[u32]) -> bool {
+    if share.iter().all(|&share| share == 0) {
+        return true;
+    }
+    let (mut sums, mut without) = ([0; MOST_STATES], 0u32);
+    for (&owner, &share) in owner.iter().zip(share) {
+        if share > 1000 {
+            return false;
+        }
+        sums[owner as usize] += share;
+        without |= u32::from(share == 0) << owner;
+    }
+    sums.into_iter().enumerate().all(|(state, sum)| sum == 0 || (sum == 1000 && without & 1 << state == 0))
 }
 
 /// What is not filling is a letter or digit, the first a capital.
@@ -119,11 +139,16 @@ pub fn parse(bytes: &[u8]) -> Result<Parsed<'_>, Question> {
 /// One step.
 #[inline(never)]
 pub fn step(table: &Table, state: &mut State, side: Party, message: &[u8], out: &mut [u8]) -> Verdict {
-    match target(table, *state, side, message, out.len()) {
+    match chosen(table, state, side, message, out.len()) {
         Err(question) => Verdict::Refused(question),
-        Ok(Ok(target)) => {
+        Ok(Ok(branch)) => {
             out[..message.len()].copy_from_slice(message);
-            state.position = target;
+            let n = &mut state.n[usize::from(state.position)];
+            if *n < MOST_COUNTED {
+                *n += 1;
+                state.k[branch] += 1;
+            }
+            state.position = table.target[branch] as u8;
             Verdict::Forwarded
         }
         Ok(Err(reason)) => {
@@ -137,7 +162,7 @@ pub fn step(table: &Table, state: &mut State, side: Party, message: &[u8], out: 
 }
 
 /// The questions of a step, then the judgement.
-fn target(table: &Table, state: State, side: Party, message: &[u8], room: usize) -> Result<Result<u8, Reason>, Question> {
+fn chosen(table: &Table, state: &State, side: Party, message: &[u8], room: usize) -> Result<Result<usize, Reason>, Question> {
     if turn(table, state)? != side {
         return Err(Question(12));
     }
@@ -149,8 +174,8 @@ fn target(table: &Table, state: State, side: Party, message: &[u8], room: usize)
 }
 
 /// Questions 9, 10 and 11, and then whose turn it is.
-fn turn(table: &Table, state: State) -> Result<Party, Question> {
-    if !sound(table) || u32::from(state.position) >= table.states {
+fn turn(table: &Table, state: &State) -> Result<Party, Question> {
+    if !sound(table) || u32::from(state.position) >= table.states || !counts_sound(table, state) {
         return Err(Question(9));
     }
     if state.standing != Standing::RUNNING {
@@ -163,7 +188,18 @@ fn turn(table: &Table, state: State) -> Result<Party, Question> {
     }
 }
 
-fn judge(table: &Table, position: u8, message: &Parsed<'_>) -> Result<u8, Reason> {
+/// Question 9 of a state's setting and counts, under a sound table: each choice's k add up to its n, at most 10,000.
+fn counts_sound(table: &Table, state: &State) -> bool {
+    let (states, branches) = (table.states as usize, table.branches as usize);
+    let mut sums = [0; MOST_STATES];
+    table.owner[..branches].iter().zip(&state.k).for_each(|(&owner, &k)| sums[owner as usize] += u32::from(k));
+    let mut counted = table.sort[..states].iter().zip(&state.n).zip(sums);
+    (1..=1000).contains(&state.setting)
+        && counted.all(|((&sort, &n), sum)| sort == 0 || (n <= MOST_COUNTED && sum == u32::from(n)))
+}
+
+/// The branch that the message takes.
+fn judge(table: &Table, position: u8, message: &Parsed<'_>) -> Result<usize, Reason> {
     let branches = table.branches as usize;
     let label = u64::from_be_bytes(*message.label);
     let (high, low) = ((label >> 32) as u32, label as u32);
@@ -179,13 +215,13 @@ fn judge(table: &Table, position: u8, message: &Parsed<'_>) -> Result<u8, Reason
     let inside = |(number, (&low, &high)): (i32, (&u32, &u32))| (low..=high).contains(&(number as u32).wrapping_add(1 << 31));
     match message.numbers().zip(ranges).position(|field| !inside(field)) {
         Some(field) => Err(Reason::OutOfRange(field as u8)),
-        None => Ok(table.target[branch] as u8),
+        None => Ok(branch),
     }
 }
 
 /// The due message.
 #[inline(never)]
-pub fn due<'a>(table: &Table, state: State, device: &'a [u8], host: &'a [u8]) -> Due<'a> {
+pub fn due<'a>(table: &Table, state: &State, device: &'a [u8], host: &'a [u8]) -> Due<'a> {
     let Ok(side) = turn(table, state) else {
         return Due { side: Party::Device, message: &device[..0] };
     };

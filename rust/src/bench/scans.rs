@@ -7,7 +7,7 @@ use std::mem::take;
 /// Bytes that wait on either side, at a state to which all that is due of them leads back, and outputs that hold just that.
 #[derive(Clone)]
 pub struct Scan {
-    /// The state, before and after.
+    /// The state: before and after at the same position.
     pub state: State,
     /// How many messages are due.
     pub messages: usize,
@@ -69,7 +69,7 @@ impl Scan {
         let (mut to_device, mut to_host) = (&mut self.to_device[..], &mut self.to_host[..]);
         let mut taken = 0;
         loop {
-            let due = table.due(self.state, device, host);
+            let due = table.due(&self.state, device, host);
             let length = due.message.len();
             if length == 0 {
                 return taken;

@@ -30,6 +30,9 @@ fn main() {
         let (from, to) = (&rows[0].race, &rows[2].race);
         grown.push((rows[0].call, to.first / from.first, to.second / from.second));
     }
+    for call in [counts, shares] {
+        inputs.iter().map(call).for_each(|row| row.print());
+    }
     hand_written().print();
     longest_fit().print();
     scan_by_hand().print();
@@ -94,6 +97,48 @@ fn step(input: &Input) -> Row {
         &mut || {
             for (side, message) in round {
                 black_box(plain::step(table, black_box(&mut other), *side, black_box(message), &mut room));
+            }
+        },
+    )
+}
+
+/// Whose turn it is, for which 9 is asked of the counts, too, against 9 of the table and the position alone.
+fn counts(input: &Input) -> Row {
+    let table = &input.table();
+    let (state, _) = &input.conversation();
+    Row::of(
+        "turn",
+        input.name,
+        "9 of table and position",
+        1,
+        &mut || {
+            black_box(table.turn(black_box(state))).ok();
+        },
+        &mut || {
+            black_box(table.sound_at(black_box(state).position.into()));
+        },
+    )
+}
+
+/// One step over a table with shares, against one over the same without.
+fn shares(input: &Input) -> Row {
+    let (table, shared) = (&input.table(), &input.shared());
+    let (start, round) = &input.conversation();
+    let (mut one, mut other) = (*start, *start);
+    let (mut out, mut room) = ([0; 300], [0; 300]);
+    Row::of(
+        "step",
+        input.name,
+        "the same without shares",
+        round.len(),
+        &mut || {
+            for (side, message) in round {
+                black_box(shared.step(black_box(&mut one), *side, black_box(message), &mut out));
+            }
+        },
+        &mut || {
+            for (side, message) in round {
+                black_box(table.step(black_box(&mut other), *side, black_box(message), &mut room));
             }
         },
     )
@@ -216,10 +261,10 @@ fn due(input: &Input) -> Row {
         "plain monitor",
         1,
         &mut || {
-            black_box(table.due(black_box(*state), black_box(device), black_box(host)));
+            black_box(table.due(black_box(state), black_box(device), black_box(host)));
         },
         &mut || {
-            black_box(plain::due(table, black_box(*state), black_box(device), black_box(host)));
+            black_box(plain::due(table, black_box(state), black_box(device), black_box(host)));
         },
     )
 }
@@ -309,7 +354,7 @@ fn longest_fit() -> Row {
 
 /// States that send the same, each on to the next.
 fn cycle(length: usize) -> Lists {
-    let branch = |owner| Branch { owner, label: label_of(b"Go"), fields: vec![], target: (owner + 1) % length };
+    let branch = |owner| Branch { owner, label: label_of(b"Go"), fields: vec![], share: None, target: (owner + 1) % length };
     Lists { states: vec![Sort::Sends; length], branches: (0..length).map(branch).collect() }
 }
 

@@ -8,7 +8,7 @@
 //! and whatever else is counted that was met a hundred times, and the run when it made 200,000 comparisons. The status is 0 only
 //! when none failed.
 
-use sojimu::compare::{Batched, Disagreement, Kind, Named, Tally, KINDS};
+use sojimu::compare::{Batched, Disagreement, Kind, Named, Shared, Tally, KINDS};
 use std::process::ExitCode;
 use std::time::Instant;
 
@@ -100,38 +100,42 @@ fn whole(options: &Options) -> usize {
     println!("seed {}, size {}", options.seed, options.size);
     let (tally, mut failed) = run(options, &KINDS);
     let mut passed = KINDS.len() - failed;
-    let mut demand = |what: String, count: u64, least: u64| {
+    for (what, count, least) in demands(&tally) {
         let met = count >= least;
         *(if met { &mut passed } else { &mut failed }) += 1;
         println!("{what:14} {count:>8}{}", if met { "" } else { ", too few" });
-    };
-    for (number, &count) in tally.questions.iter().enumerate().skip(1) {
-        demand(format!("question {number}"), count, OFTEN);
     }
-    for (number, &count) in tally.reasons.iter().enumerate().skip(1) {
-        demand(format!("reason {number}"), count, OFTEN);
-    }
-    demand("forwarded".into(), tally.forwarded, OFTEN);
-    demand("broken".into(), tally.broken, OFTEN);
-    demand("label, there".into(), tally.label_there, OFTEN);
-    demand("label, cut".into(), tally.label_cut, OFTEN);
-    for (place, (apart, blamed)) in tally.label_apart.into_iter().zip(tally.label_blamed).enumerate() {
-        demand(format!("label, byte {place}"), apart, OFTEN);
-        demand(format!("blamed, byte {place}"), blamed, OFTEN);
-    }
-    demand("wide words".into(), tally.wide, OFTEN);
-    demand("strange".into(), tally.strange, OFTEN);
-    demand("fits".into(), tally.fits, OFTEN);
-    demand("fails".into(), tally.fails, OFTEN);
-    demand("by a high one".into(), tally.high, OFTEN);
-    demand("most moves".into(), tally.most_moves as u64, OFTEN);
-    for (what, count) in Named::ALL.into_iter().zip(tally.named) {
-        demand(what.into(), count, OFTEN);
-    }
-    for (what, count) in Batched::ALL.into_iter().zip(tally.batched) {
-        demand(what.into(), count, OFTEN);
-    }
-    demand("comparisons".into(), tally.comparisons, ENOUGH);
     println!("{passed} passed, {failed} failed");
     failed
+}
+
+/// What must be met, how often it was, and how often it must be.
+fn demands(tally: &Tally) -> Vec<(String, u64, u64)> {
+    let mut all = Vec::new();
+    let mut often = |what: String, count: u64| all.push((what, count, OFTEN));
+    for (number, &count) in tally.questions.iter().enumerate().skip(1) {
+        often(format!("question {number}"), count);
+    }
+    for (number, &count) in tally.reasons.iter().enumerate().skip(1) {
+        often(format!("reason {number}"), count);
+    }
+    often("forwarded".into(), tally.forwarded);
+    often("broken".into(), tally.broken);
+    often("label, there".into(), tally.label_there);
+    often("label, cut".into(), tally.label_cut);
+    for (place, (apart, blamed)) in tally.label_apart.into_iter().zip(tally.label_blamed).enumerate() {
+        often(format!("label, byte {place}"), apart);
+        often(format!("blamed, byte {place}"), blamed);
+    }
+    often("wide words".into(), tally.wide);
+    often("strange".into(), tally.strange);
+    often("fits".into(), tally.fits);
+    often("fails".into(), tally.fails);
+    often("by a high one".into(), tally.high);
+    often("most moves".into(), tally.most_moves as u64);
+    Named::ALL.into_iter().zip(tally.named).for_each(|(what, count)| often(what.into(), count));
+    Batched::ALL.into_iter().zip(tally.batched).for_each(|(what, count)| often(what.into(), count));
+    Shared::ALL.into_iter().zip(tally.shared).for_each(|(what, count)| often(what.into(), count));
+    all.push(("comparisons".into(), tally.comparisons, ENOUGH));
+    all
 }

@@ -2,12 +2,12 @@
 //! any state, with outputs of any room. Each is compared with the second implementation's, with the proved code's single steps,
 //! and with itself where the bytes come in two pieces.
 
-use super::both::{batch_codes, state, state_after, Both};
+use super::both::{batch_codes, state, state_after, state_codes, Both};
 use super::endings::{count, Batched};
 use super::steps::{anywhere, Odds, UNTOUCHED};
 use super::{both, show, Outcome, Tally};
-use crate::proved::{ffi, Batch, Party, Question, Standing, State, Table, Verdict};
-use crate::second::random::{endless_table, ragged, sound_table, walk, Random, Waiting};
+use crate::proved::{ffi, Batch, Party, Question, State, Table, Verdict};
+use crate::second::random::{endless_table, ragged, sound_table, state_at, walk, Random, Waiting};
 use crate::second::table::{self, Raw};
 use crate::second::{batch, text};
 
@@ -49,7 +49,7 @@ impl Given {
 
     fn show(&self, both: &Both) -> String {
         let Given { state, waiting, device_room, host_room } = self;
-        let heading = format!("{state:?}, room {device_room} to the device, {host_room} to the host\n");
+        let heading = format!("room {device_room} to the device, {host_room} to the host, {}", show::state(state));
         let waiting = show::bytes("device's", &waiting.device) + &show::bytes("host's", &waiting.host);
         heading + &waiting + &show::table("table", &both.proved)
     }
@@ -58,7 +58,7 @@ impl Given {
 /// One batch at any state of a table, whole and in two pieces.
 pub fn case(random: &mut Random, tally: &mut Tally) -> Outcome {
     let sound = protocol(random);
-    let (both, state) = anywhere(random, &sound, Odds { damaged: 24, beyond: 24, stopped: 16 });
+    let (both, state) = anywhere(random, &sound, Odds { damaged: 24, beyond: 24, stopped: 16, counts: 16 });
     let position = usize::from(state.position).min(sound.states.len() - 1);
     let messages = *random.pick(&[1, 2, 5, 20, 60, 200, 400]);
     let faults = *random.pick(&[0, 4, 20, 200]);
@@ -76,7 +76,7 @@ pub fn every_room(random: &mut Random, tally: &mut Tally) -> Outcome {
     let sound = if random.one_in(4) { example(random) } else { endless_table(random, 4, 8) };
     let both = Both::of(&Raw::of(&sound));
     let position = random.below(sound.states.len());
-    let state = State { position: position as u8, standing: Standing::RUNNING };
+    let state = state_codes(&state_at(random, &sound, position));
     let waiting = walk(random, &sound, position, 10, 30);
     let enough = Given { state, device_room: waiting.host.len(), host_room: waiting.device.len(), waiting };
     for device_room in 0..=enough.device_room + 1 {
@@ -115,11 +115,11 @@ fn room(random: &mut Random, whole: usize) -> usize {
 /// The batch through both, and by single steps: every number, the state, and every byte of the outputs.
 pub fn batch_of(given: &Given, both: &Both, tally: &mut Tally) -> Result<Left, String> {
     let Waiting { device, host } = &given.waiting;
-    let (mut second, mut wanted) = (given.untouched(), state(given.state));
+    let (mut second, mut wanted) = (given.untouched(), state(&given.state));
     let (to_device, to_host) = (&mut second.to_device, &mut second.to_host);
     let batch = batch::batch(&both.second, &mut wanted, device, host, to_device, to_host);
     second.batch = both::batch(batch);
-    second.state = state_after(given.state, wanted);
+    second.state = state_after(&given.state, &wanted);
 
     let mut proved = given.untouched();
     proved.batch = taken(&both.proved, &mut proved, device, host);
@@ -148,12 +148,12 @@ fn by_single_steps(given: &Given, table: &Table) -> (Left, usize) {
     let mut left = given.untouched();
     let Left { batch, state, to_device, to_host } = &mut left;
     let mut forwarded = 0;
-    if let Err(question @ Question(9 | 10)) = table.turn(*state) {
+    if let Err(question @ Question(9 | 10)) = table.turn(state) {
         batch.last = Some(Verdict::Refused(question));
         return (left, forwarded);
     }
     loop {
-        let due = table.due(*state, &device[batch.used_device..], &host[batch.used_host..]);
+        let due = table.due(state, &device[batch.used_device..], &host[batch.used_host..]);
         let length = due.message.len();
         if length == 0 {
             return (left, forwarded);

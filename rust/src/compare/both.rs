@@ -2,11 +2,12 @@
 
 use super::{texts, Tally};
 use crate::proved::ffi;
-use crate::proved::{Batch, Party, Question, Reason, Standing, State, Table, Verdict};
+use crate::proved::{Batch, Party, Question, Reason, Standing, State, Table, Verdict, Warning};
 use crate::second::batch;
 use crate::second::monitor as second;
 use crate::second::table::{self, Raw};
 use crate::second::text;
+use crate::second::warning;
 
 /// A table as words, and the same as the second implementation has it; there, words that are not sound are the empty table.
 pub struct Both {
@@ -41,6 +42,7 @@ impl From<&Raw> for Table {
             kind: raw.kind,
             low: raw.low,
             high: raw.high,
+            share: raw.share,
             reserved: raw.reserved,
         }
     }
@@ -60,6 +62,7 @@ impl From<&Table> for Raw {
             kind: table.kind,
             low: table.low,
             high: table.high,
+            share: table.share,
             reserved: table.reserved,
         }
     }
@@ -74,31 +77,38 @@ pub fn party(side: second::Side) -> Party {
 }
 
 /// The second implementation's state. It has no code that is unknown: such a standing is not running, as those of a blame are.
-pub fn state(state: State) -> second::State {
+pub fn state(state: &State) -> second::State {
     let standing = match state.standing {
         Standing::RUNNING => second::Standing::Running,
         Standing::HOST_BLAMED => second::Standing::HostBlamed,
         _ => second::Standing::DeviceBlamed,
     };
-    second::State { position: usize::from(state.position), standing }
+    second::State {
+        position: usize::from(state.position),
+        standing,
+        setting: state.setting.into(),
+        n: state.n.map(u32::from),
+        k: state.k.map(u32::from),
+    }
 }
 
 /// What the state must have become: as it was, code and all, where the second implementation's has not changed.
-pub fn state_after(before: State, after: second::State) -> State {
-    if after == state(before) {
-        return before;
+pub fn state_after(before: &State, after: &second::State) -> State {
+    if *after == state(before) {
+        return *before;
     }
     state_codes(after)
 }
 
-/// The second implementation's state in codes.
-pub fn state_codes(state: second::State) -> State {
+/// The second implementation's state in codes, and in numbers of sixteen bits, which its own are not above.
+pub fn state_codes(state: &second::State) -> State {
     let standing = match state.standing {
         second::Standing::Running => Standing::RUNNING,
         second::Standing::DeviceBlamed => Standing::DEVICE_BLAMED,
         second::Standing::HostBlamed => Standing::HOST_BLAMED,
     };
-    State { position: state.position as u8, standing }
+    let (n, k) = (state.n.map(|n| n as u16), state.k.map(|k| k as u16));
+    State { position: state.position as u8, standing, setting: state.setting as u16, n, k }
 }
 
 /// The verdict of the second implementation's step.
@@ -145,6 +155,23 @@ pub fn batch_codes(batch: batch::Batch) -> ffi::Batch {
     let none_due = ffi::Verdict { outcome: 3, question: 0, party: 0, reason: 0, field: 0 };
     let last = last.map_or(none_due, verdict_codes);
     ffi::Batch { used_device, used_host, written_to_device, written_to_host, last, reserved: [0; 3] }
+}
+
+/// What the second implementation tells of a branch.
+pub fn warning(told: warning::Told) -> Warning {
+    let warning::Told { warns, sender, estimate } = told;
+    Warning { warns, sender: party(sender), estimate }
+}
+
+/// The same in the numbers that it is given back in: what does not apply is 0, and where there is no estimate, 65535.
+pub fn warning_codes(told: Result<warning::Told, u8>) -> ffi::Warning {
+    match told {
+        Err(question) => ffi::Warning { question: question.into(), warns: 0, sender: 0, estimate: 65535 },
+        Ok(warning::Told { warns, sender, estimate }) => {
+            let (warns, sender) = (warns.into(), party(sender) as u32);
+            ffi::Warning { question: 0, warns, sender, estimate: estimate.unwrap_or(65535) }
+        }
+    }
 }
 
 /// An answer's question and number: 0 and the number, or the question that got a no and 0.

@@ -2,12 +2,13 @@
 
 use super::both::Both;
 use super::names::by_branch;
-use super::steps::{due_of, step_of, Given};
+use super::steps::{due_of, fresh_of, step_of, Given};
 use super::{Named, Outcome, Tally};
 use crate::proved::State;
 use crate::second::monitor::{turn, Side};
 use crate::second::random::{
-    any_message, damaged_message, endless_table, faulty_message, joined, named_tokens, spoken, with_noise, Limits, Random,
+    any_message, damaged_message, endless_table, faulty_message, joined, named_tokens, setting, spoken, with_noise, Limits,
+    Random,
 };
 use crate::second::table::Raw;
 
@@ -22,10 +23,10 @@ pub fn case(random: &mut Random, tally: &mut Tally) -> Outcome {
     let (states, branches) = *random.pick(&[(3, 6), (8, 20), (12, 20), (32, 128)]);
     let columns = Raw::of(&endless_table(random, states, branches));
     let both = Both::of(&with_noise(random, &columns));
-    let mut state = State::fresh();
+    let mut state = begun(random, &both, tally)?;
     for _ in 0..MESSAGES {
         state = others(random, &both, state, tally)?;
-        let given = allowed(random, &both, state);
+        let given = allowed(random, &both, &state);
         let more = random.bytes(12);
         let waiting: Vec<u8> = given.message.iter().copied().chain(more).collect();
         let early = any_message(random).bytes();
@@ -44,24 +45,30 @@ pub fn of_text(random: &mut Random, tally: &mut Tally) -> Outcome {
     let text = joined(random, &tokens);
     let both = Both::read(&text, tally)?;
     let through = by_branch(&text);
-    let mut state = State::fresh();
+    let mut state = begun(random, &both, tally)?;
     for _ in 0..FEW_MESSAGES {
         state = others(random, &both, state, tally)?;
-        let given = allowed(random, &both, state);
+        let given = allowed(random, &both, &state);
         let position = usize::from(state.position);
         let own = both.second.branches_of(position);
         let said = own.iter().find(|&&b| given.message.starts_with(&both.second.branches[b].label));
         state = step_of(&given, &both, tally)?;
         match said {
             Some(&branch) => tally.name(Named::Spoken, through[branch]),
-            None => state = State::fresh(),
+            None => state = begun(random, &both, tally)?,
         }
     }
     forbidden(random, &both, state, 2, tally)
 }
 
+/// A conversation begins, under a table that is sound.
+fn begun(random: &mut Random, both: &Both, tally: &mut Tally) -> Result<State, String> {
+    let setting = setting(random);
+    fresh_of(both, setting, tally)?.ok_or("the table is not sound".to_string())
+}
+
 /// What the protocol allows at a state, with room enough; at an end, any message.
-fn allowed(random: &mut Random, both: &Both, state: State) -> Given {
+pub fn allowed(random: &mut Random, both: &Both, state: &State) -> Given {
     let position = usize::from(state.position);
     let own = both.second.branches_of(position);
     let side = turn(both.second.states[position]).unwrap_or(Side::Device);
@@ -71,12 +78,12 @@ fn allowed(random: &mut Random, both: &Both, state: State) -> Given {
         let branch = *random.pick(&own);
         spoken(random, &both.second.branches[branch]).bytes()
     };
-    Given { state, side, room: message.len() + random.below(3), message }
+    Given { state: *state, side, room: message.len() + random.below(3), message }
 }
 
 /// Now and then a message out of turn, a damaged one, one with too little room, or one that is forbidden.
 fn others(random: &mut Random, both: &Both, state: State, tally: &mut Tally) -> Result<State, String> {
-    let mut given = allowed(random, both, state);
+    let mut given = allowed(random, both, &state);
     match random.below(16) {
         0 => {
             given.side = if given.side == Side::Device { Side::Host } else { Side::Device };
@@ -104,7 +111,7 @@ fn others(random: &mut Random, both: &Both, state: State, tally: &mut Tally) -> 
 fn forbidden(random: &mut Random, both: &Both, state: State, more: usize, tally: &mut Tally) -> Outcome {
     let mut state = state;
     for _ in 0..=more {
-        let mut given = allowed(random, both, state);
+        let mut given = allowed(random, both, &state);
         given.message = faulty_message(random, &both.second, usize::from(state.position));
         given.room = given.message.len().saturating_sub(usize::from(random.one_in(5)));
         state = step_of(&given, both, tally)?;

@@ -91,7 +91,7 @@ impl Batched {
 pub fn count(given: &Given, both: &Both, left: &Left, forwarded: usize, tally: &mut Tally) {
     let Batch { used_device, used_host, written_to_device, written_to_host, last } = left.batch;
     let Waiting { device, host } = &given.waiting;
-    let turn = both.proved.turn(left.state);
+    let turn = both.proved.turn(&left.state);
     let any = !device.is_empty() || !host.is_empty();
     tally.batch(Batched::Hundred, forwarded >= 100);
     tally.batch(Batched::BothSides, used_device > 0 && used_host > 0);

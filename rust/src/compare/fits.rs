@@ -2,7 +2,7 @@
 
 use super::both::Both;
 use super::names::has;
-use super::{show, Named, Outcome, Tally};
+use super::{show, Named, Outcome, Shared, Tally};
 use crate::proved::{ffi, Fitting, Question};
 use crate::second::brute::explore;
 use crate::second::fit::{fit, shows_no_fit, Answer};
@@ -108,6 +108,9 @@ fn check(device: &Both, protocol: &Both, room: usize, tally: &mut Tally) -> Resu
     };
     let untouched = list.iter().skip(moves).all(|&entry| entry == UNTOUCHED);
     count(answer, tally);
+    let shared = [device, protocol].iter().any(|both| both.second.branches.iter().any(|branch| branch.share.is_some()));
+    tally.share(Shared::Fits, shared && matches!(answer, Fitting::Fits { .. }));
+    tally.share(Shared::Fails, shared && matches!(answer, Fitting::Fails { .. }));
     let wanted = (second, true, true, codes(second, high), &list);
     tally.same("fit", (proved, shown, untouched, given, &again), wanted, || {
         format!("room {room}, {answer:?}\n{}", show_pair(device, protocol))

@@ -2,14 +2,14 @@
 //! byte; and messages whose label is a branch's but for one byte, through a step and a batch.
 
 use super::batches::{self, batch_of};
-use super::both::{party, Both};
+use super::both::{party, state_codes, Both};
 use super::steps::{self, step_of};
 use super::{show, Outcome, Tally};
 use crate::proved::message as proved;
-use crate::proved::{Reason, Standing, State, Verdict};
+use crate::proved::{Reason, Verdict};
 use crate::second::message::has_label;
 use crate::second::monitor::turn;
-use crate::second::random::{endless_table, label_of, spoken, Random, Waiting};
+use crate::second::random::{endless_table, label_of, spoken, state_at, Random, Waiting};
 use crate::second::table::{Label, Raw, LABEL_BYTES};
 
 /// Letters and digits, those first that a label may begin with.
@@ -51,7 +51,7 @@ fn said(random: &mut Random, tally: &mut Tally) -> Outcome {
     let message = message.bytes();
 
     let both = Both::of(&Raw::of(&table));
-    let state = State { position: position as u8, standing: Standing::RUNNING };
+    let state = state_codes(&state_at(random, &table, position));
     let side = turn(table.states[position]).expect("the state owns a branch");
     let room = message.len();
     let verdict = both.proved.step(&mut state.clone(), party(side), &message, &mut vec![0; room]);

@@ -14,15 +14,18 @@ mod labels;
 mod messages;
 mod names;
 mod reports;
+mod shares;
 mod show;
 mod steps;
 mod tables;
 mod tally;
 mod texts;
+mod warnings;
 
-pub use both::{batch, party, state, state_after, state_codes, verdict};
+pub use both::{batch, party, state, state_after, state_codes, verdict, warning};
 pub use endings::Batched;
 pub use names::Named;
+pub use shares::Shared;
 pub use tally::Tally;
 
 use crate::second::random::Random;
@@ -40,7 +43,7 @@ pub struct Kind {
 }
 
 /// Every kind of comparison.
-pub const KINDS: [Kind; 14] = [
+pub const KINDS: [Kind; 15] = [
     Kind { name: "texts", cases: 100_000, run: texts::case },
     Kind { name: "tables", cases: 1_600, run: tables::case },
     Kind { name: "messages", cases: 12_000, run: messages::case },
@@ -50,6 +53,7 @@ pub const KINDS: [Kind; 14] = [
     Kind { name: "text-talks", cases: 1_000, run: conversations::of_text },
     Kind { name: "batches", cases: 20_000, run: batches::case },
     Kind { name: "batch-rooms", cases: 200, run: batches::every_room },
+    Kind { name: "warnings", cases: 400, run: warnings::case },
     Kind { name: "small-fits", cases: 21_000, run: fits::small },
     Kind { name: "large-fits", cases: 4_000, run: fits::large },
     Kind { name: "long-fits", cases: 2_200, run: fits::long },

@@ -1,6 +1,6 @@
 //! Inputs in a form that can be read.
 
-use crate::proved::{Table, MOST_BRANCHES, MOST_FIELDS, MOST_STATES};
+use crate::proved::{State, Table, MOST_BRANCHES, MOST_FIELDS, MOST_STATES};
 use std::fmt;
 use std::hash::{DefaultHasher, Hash, Hasher};
 
@@ -26,7 +26,18 @@ pub fn bytes(name: &str, bytes: &[u8]) -> String {
     format!("{name}, {} bytes:{numbers}\n", bytes.len())
 }
 
-/// A table's entries that count: of each branch owner, target, label, and kind, low, high of its fields.
+/// A state, its counts by their numbers where they are not 0.
+pub fn state(state: &State) -> String {
+    let State { position, standing, setting, .. } = state;
+    let mut line = format!("position {position}, standing {}, setting {setting}", standing.0);
+    for (name, counts) in [("n", &state.n[..]), ("k", &state.k[..])] {
+        let met = counts.iter().enumerate().filter(|(_, &count)| count > 0);
+        line += &met.map(|(number, count)| format!(" {name}[{number}] {count}")).collect::<String>();
+    }
+    line + "\n"
+}
+
+/// A table's entries that count: of each branch owner, target, label, share, and kind, low, high of its fields.
 pub fn table(name: &str, table: &Table) -> String {
     let states = (table.states as usize).min(MOST_STATES);
     let branches = (table.branches as usize).min(MOST_BRANCHES);
@@ -34,8 +45,8 @@ pub fn table(name: &str, table: &Table) -> String {
     lines += &format!("  sort {:?}\n", &table.sort[..states]);
     for b in 0..branches {
         let label = String::from_utf8_lossy(&table.label(b).to_be_bytes()).into_owned();
-        let (owner, target, fields) = (table.owner[b], table.target[b], table.fields[b]);
-        lines += &format!("  branch {b}: owner {owner} target {target} label {label:?} fields {fields}");
+        let (owner, target, share, fields) = (table.owner[b], table.target[b], table.share[b], table.fields[b]);
+        lines += &format!("  branch {b}: owner {owner} target {target} label {label:?} share {share} fields {fields}");
         for f in 0..(fields as usize).min(MOST_FIELDS) {
             let place = MOST_FIELDS * b + f;
             lines += &format!(" [{} {:08X}..{:08X}]", table.kind[place], table.low[place], table.high[place]);

@@ -1,10 +1,14 @@
-//! Single steps and due parts, from any state: every standing code, every position, and sides that are neither.
+//! Conversations that begin, single steps and due parts, from any state: every standing code, every position, any counts, and sides
+//! that are neither.
 
-use super::both::{codes, party, state, state_after, verdict, verdict_codes, Both};
-use super::{show, Outcome, Tally};
-use crate::proved::{ffi, Question, Standing, State};
-use crate::second::monitor::{awaited, due, step, turn, Side};
-use crate::second::random::{damaged_message, damaged_table, message_for, sound_table, waiting, with_noise, Random, COLUMNS};
+use super::both::{codes, party, state, state_after, state_codes, verdict, verdict_codes, Both};
+use super::shares::{count_forwarded, count_refused};
+use super::{show, Outcome, Shared, Tally};
+use crate::proved::{ffi, Question, Standing, State, Verdict, MOST_BRANCHES, MOST_STATES};
+use crate::second::monitor::{self, awaited, due, step, turn, Side};
+use crate::second::random::{
+    damaged_counts, damaged_message, damaged_table, message_for, sound_table, state_at, waiting, with_noise, Random, COLUMNS,
+};
 use crate::second::table::{Raw, Table};
 
 /// A byte of the output before the call.
@@ -22,13 +26,13 @@ pub struct Given {
 impl Given {
     fn show(&self, both: &Both) -> String {
         let Given { state, side, message, room } = self;
-        let heading = format!("{state:?}, side {side:?}, room {room}\n");
+        let heading = format!("side {side:?}, room {room}, {}", show::state(state));
         heading + &show::bytes("message", message) + &show::table("table", &both.proved)
     }
 
     /// Whose turn it is.
     fn speaker(&self, both: &Both) -> Result<Side, u8> {
-        awaited(&both.second, &state(self.state))
+        awaited(&both.second, &state(&self.state))
     }
 }
 
@@ -36,7 +40,7 @@ impl Given {
 pub fn case(random: &mut Random, tally: &mut Tally) -> Outcome {
     let (states, branches) = *random.pick(&[(3, 4), (6, 12), (12, 20)]);
     let sound = sound_table(random, states, branches);
-    let (both, state) = anywhere(random, &sound, Odds { damaged: 16, beyond: 8, stopped: 6 });
+    let (both, state) = anywhere(random, &sound, Odds { damaged: 16, beyond: 8, stopped: 6, counts: 8 });
     let spoken = usize::from(state.position).min(sound.states.len() - 1);
     let mut side = turn(sound.states[spoken]).unwrap_or(*random.pick(&[Side::Device, Side::Host]));
     if random.one_in(8) {
@@ -59,9 +63,11 @@ pub struct Odds {
     pub damaged: usize,
     pub beyond: usize,
     pub stopped: usize,
+    pub counts: usize,
 }
 
-/// A sound table with noise where nothing looks, at times damaged, and any state: at times beyond the table, or not running.
+/// A sound table with noise where nothing looks, at times damaged, and any state: at times beyond the table, not running, or with
+/// damaged counts.
 pub fn anywhere(random: &mut Random, sound: &Table, odds: Odds) -> (Both, State) {
     let mut columns = Raw::of(sound);
     if random.one_in(2) {
@@ -74,16 +80,41 @@ pub fn anywhere(random: &mut Random, sound: &Table, odds: Odds) -> (Both, State)
     let beyond = usize::from(random.one_in(odds.beyond));
     let position = random.below(sound.states.len() + beyond);
     let standing = if random.one_in(odds.stopped) { *random.pick(&[1, 2, 3, 4, 127, 128, 255]) } else { 0 };
-    (Both::of(&columns), State { position: position as u8, standing: Standing(standing) })
+    let mut state = state_at(random, sound, position);
+    if random.one_in(odds.counts) {
+        state = damaged_counts(random, sound, &state);
+    }
+    (Both::of(&columns), State { standing: Standing(standing), ..state_codes(&state) })
+}
+
+/// A conversation begins, through both: the state or the question, and every number that is given back. A refused one has counts
+/// of 0, its setting among them.
+pub fn fresh_of(both: &Both, setting: u32, tally: &mut Tally) -> Result<Option<State>, String> {
+    let second = monitor::State::fresh(&both.second, setting);
+    let refused = State { position: 0, standing: Standing::RUNNING, setting: 0, n: [0; MOST_STATES], k: [0; MOST_BRANCHES] };
+    let state = second.as_ref().map_or(refused, state_codes);
+    let question = second.err().unwrap_or(0);
+    let wanted = if question == 0 { Ok(state) } else { Err(Question(question)) };
+    let proved = both.proved.fresh(setting);
+    let given = ffi::sojimu_fresh(&both.proved, setting);
+    tally.asked(proved.err());
+    tally.share(Shared::Begun, proved.is_ok());
+    tally.share(Shared::Begun9, proved == Err(Question(9)));
+    tally.share(Shared::Begun21, proved == Err(Question(21)));
+    let started = ffi::Started { question: question.into(), state };
+    tally.same("fresh", (proved, given), (wanted, started), || {
+        format!("setting {setting}\n{}", show::table("table", &both.proved))
+    })?;
+    Ok(proved.ok())
 }
 
 /// The step through both: verdict, all its bytes, state, and every byte of the output. Gives back the state after it.
 pub fn step_of(given: &Given, both: &Both, tally: &mut Tally) -> Result<State, String> {
     let Given { state: before, side, message, room } = given;
     let untouched = || vec![UNTOUCHED; *room];
-    let (mut wanted, mut output) = (state(*before), untouched());
+    let (mut wanted, mut output) = (state(before), untouched());
     let second = step(&both.second, &mut wanted, *side, message, &mut output);
-    let left = (state_after(*before, wanted), output);
+    let left = (state_after(before, &wanted), output);
     let second = (verdict(second), verdict_codes(second), [left.clone(), left]);
 
     let (mut after, mut output) = (*before, untouched());
@@ -91,6 +122,11 @@ pub fn step_of(given: &Given, both: &Both, tally: &mut Tally) -> Result<State, S
     let (mut again, mut same) = (*before, untouched());
     let codes = ffi::step(&both.proved, &mut again, party(*side) as u32, message, &mut same);
     tally.verdict(proved);
+    match proved {
+        Verdict::Forwarded => count_forwarded(before, tally),
+        Verdict::Refused(question) => count_refused(both, before, question, tally),
+        Verdict::Blamed(..) => {}
+    }
     tally.same("step", (proved, codes, [(after, output), (again, same)]), second, || given.show(both))?;
     Ok(after)
 }
@@ -101,7 +137,7 @@ pub fn nobodys_step(random: &mut Random, given: &Given, both: &Both, tally: &mut
     let code = *random.pick(&[2, 3, 255, 256, 257, 0x1_0000, 0x1_0001, 0x8000_0000, 0x8000_0001, u32::MAX]);
     // Whose turn it is not is told the same.
     let other = if given.speaker(both) == Ok(Side::Device) { Side::Host } else { Side::Device };
-    let second = step(&both.second, &mut state(*before), other, message, &mut vec![0; *room]);
+    let second = step(&both.second, &mut state(before), other, message, &mut vec![0; *room]);
     let (mut after, mut output) = (*before, vec![UNTOUCHED; *room]);
     let codes = ffi::step(&both.proved, &mut after, code, message, &mut output);
     tally.strange += 1;
@@ -113,12 +149,12 @@ pub fn nobodys_step(random: &mut Random, given: &Given, both: &Both, tally: &mut
 pub fn due_of(given: &Given, both: &Both, device: &[u8], host: &[u8], tally: &mut Tally) -> Outcome {
     let show = || given.show(both) + &show::bytes("device's", device) + &show::bytes("host's", host);
     let speaker = given.speaker(both).map(party);
-    let told = ffi::sojimu_turn(&both.proved, given.state);
-    let turn = (both.proved.turn(given.state), (told.question, told.side));
+    let told = ffi::turn(&both.proved, &given.state);
+    let turn = (both.proved.turn(&given.state), (told.question, told.side));
     tally.same("turn", turn, (speaker.map_err(Question), codes(speaker.map(|side| side as usize))), show)?;
-    let part = both.proved.due(given.state, device, host);
-    let told = ffi::due(&both.proved, given.state, device, host);
-    let wanted = due(&both.second, &state(given.state), device, host);
+    let part = both.proved.due(&given.state, device, host);
+    let told = ffi::due(&both.proved, &given.state, device, host);
+    let wanted = due(&both.second, &state(&given.state), device, host);
     let waiting = if wanted.side == Side::Device { device } else { host };
     // The part begins where that side's bytes begin.
     let place = (part.side, part.message.as_ptr(), part.message.len(), told.side, told.length);

@@ -1,16 +1,16 @@
 //! Tables: sound, with noise beyond their counts, damaged in each column, and any; question 9, the dual, and messages made.
 
 use super::batches::{self, batch_of};
-use super::both::{codes, Both};
+use super::both::{codes, state_codes, Both};
 use super::show::{self, Columns};
-use super::steps::{due_of, nobodys_step, step_of, Given, UNTOUCHED};
+use super::steps::{due_of, fresh_of, nobodys_step, step_of, Given, UNTOUCHED};
 use super::{Outcome, Tally};
 use crate::proved::message::{label_legal, range_legal};
 use crate::proved::{ffi, Question, Standing, State, Table};
 use crate::second::message;
 use crate::second::monitor::Side;
 use crate::second::random::{
-    any_raw, damaged_table, faulty_message, kind, number_of, sound_table, with_noise, Random, Waiting, COLUMNS,
+    any_raw, damaged_table, faulty_message, kind, number_of, sound_table, state_at, with_noise, Random, Waiting, COLUMNS,
 };
 use crate::second::table::{legal_label, Kind, Raw, MOST_BRANCHES, MOST_STATES};
 
@@ -42,6 +42,9 @@ fn one(random: &mut Random, columns: &Raw, tally: &mut Tally) -> Outcome {
     tally.same("sound at", both.proved.sound_at(position), columns.sound_at(position as usize), show)?;
     dual(columns, &both, tally)?;
     make(random, &both, tally)?;
+    let setting = random.below(1003) as u32;
+    let setting = if random.one_in(4) { random.wide(setting) } else { setting };
+    fresh_of(&both, setting, tally)?;
     let one = given(random, &both);
     step_of(&one, &both, tally)?;
     nobodys_step(random, &one, &both, tally)?;
@@ -127,7 +130,8 @@ fn given(random: &mut Random, both: &Both) -> Given {
     let state = random.below(both.second.states.len());
     let message = faulty_message(random, &both.second, state);
     let side = *random.pick(&[Side::Device, Side::Host]);
-    Given { state: State { position, standing }, side, room: message.len(), message }
+    let counted = state_codes(&state_at(random, &both.second, position.into()));
+    Given { state: State { standing, ..counted }, side, room: message.len(), message }
 }
 
 /// Labels and ranges by themselves.

@@ -1,6 +1,6 @@
 //! What was compared.
 
-use super::{Batched, Named, Outcome};
+use super::{Batched, Named, Outcome, Shared};
 use crate::proved::{Question, Verdict};
 use crate::second::table::LABEL_BYTES;
 use std::fmt::Debug;
@@ -11,7 +11,7 @@ pub struct Tally {
     /// Calls put through both.
     pub comparisons: u64,
     /// Refusals by the number of the question.
-    pub questions: [u64; 19],
+    pub questions: [u64; 22],
     /// Blames by the number of the reason.
     pub reasons: [u64; 4],
     /// Messages forwarded.
@@ -42,6 +42,8 @@ pub struct Tally {
     pub named: [u64; Named::ALL.len()],
     /// What came of batches, in the order of [`Batched`].
     pub batched: [u64; Batched::ALL.len()],
+    /// What came of shares, counts and warnings, in the order of [`Shared`].
+    pub shared: [u64; Shared::ALL.len()],
 }
 
 impl Tally {
@@ -54,6 +56,7 @@ impl Tally {
         self.label_blamed.iter_mut().zip(other.label_blamed).for_each(|(mine, its)| *mine += its);
         self.named.iter_mut().zip(other.named).for_each(|(mine, its)| *mine += its);
         self.batched.iter_mut().zip(other.batched).for_each(|(mine, its)| *mine += its);
+        self.shared.iter_mut().zip(other.shared).for_each(|(mine, its)| *mine += its);
         self.forwarded += other.forwarded;
         self.broken += other.broken;
         self.label_there += other.label_there;
@@ -96,6 +99,11 @@ impl Tally {
     /// Counts a batch of which this holds, if it does.
     pub(super) fn batch(&mut self, what: Batched, holds: bool) {
         self.batched[what as usize] += u64::from(holds);
+    }
+
+    /// Counts what came of shares, counts or a warning, if this did.
+    pub(super) fn share(&mut self, what: Shared, holds: bool) {
+        self.shared[what as usize] += u64::from(holds);
     }
 
     /// Counts a verdict.

@@ -1,7 +1,7 @@
 //! Texts: legal, nearly legal, with tokens of any length, and any bytes.
 
 use super::show::{self, Columns};
-use super::{names, Outcome, Tally};
+use super::{names, Outcome, Shared, Tally};
 use crate::proved::ffi;
 use crate::proved::{Question, Refusal, Table};
 use crate::second::random::{any_text, Random};
@@ -32,6 +32,7 @@ pub fn read(bytes: &[u8], tally: &mut Tally) -> Outcome {
     let (told, given) = ffi::read(bytes);
     tally.asked(proved.as_ref().err().map(|refusal| refusal.question));
     names::count(bytes, question, at, tally);
+    tally.share(Shared::Read, table.0.share.iter().any(|&share| share > 0));
     let proved = (proved, told.question, told.at, Columns(given));
     tally.same("read", proved, (second, question.into(), at as u32, table), || show::bytes("text", bytes))
 }
@@ -41,7 +42,7 @@ fn stretch(random: &mut Random, bytes: &mut Vec<u8>) {
     let place = random.below(bytes.len() + 1);
     let byte = match bytes.get(place) {
         Some(&byte) if !random.one_in(4) => byte,
-        _ => *random.pick(b"09.- \nAzx"),
+        _ => *random.pick(b"09.- \nAzx@"),
     };
     let times = *random.pick(&[2, 3, 9, 10, 11, 19, 20, 21, 64, 300, 5000]);
     bytes.splice(place..place, std::iter::repeat_n(byte, times));

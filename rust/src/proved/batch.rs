@@ -36,10 +36,10 @@ impl Table {
     /// that 16 refuses is not used, and what was forwarded before it stays so: make room, and go on with the rest.
     ///
     /// ```
-    /// use sojimu::{Party, Question, Reason, State, Table, Verdict};
+    /// use sojimu::{Party, Question, Reason, Table, Verdict};
     ///
     /// let protocol = Table::read(b"rec X.+{!Ask(int[0..100]).&{?Ok().X},!Quit().end}")?;
-    /// let mut state = State::fresh();
+    /// let mut state = protocol.fresh(200)?;
     /// let device = b"Ask\0\0\0\0\0\x01\0\0\0\0\x64Ask\0\0\0\0\0\x01\0\0\0\0\x65";
     /// let host = b"Ok\0\0\0\0\0\0\0Ok";
     /// let (mut to_device, mut to_host) = ([0xEE; 10], [0xEE; 20]);
@@ -52,7 +52,7 @@ impl Table {
     /// let batch = protocol.batch(&mut state, &device[14..], &host[9..], &mut to_device, &mut to_host);
     /// assert_eq!((batch.used_device, batch.written_to_host), (14, 0));
     /// assert_eq!(batch.last, Some(Verdict::Blamed(Party::Device, Reason::OutOfRange(0))));
-    /// # Ok::<(), sojimu::Refusal>(())
+    /// # Ok::<(), Box<dyn std::error::Error>>(())
     /// ```
     #[inline]
     pub fn batch(&self, state: &mut State, device: &[u8], host: &[u8], to_device: &mut [u8], to_host: &mut [u8]) -> Batch {

@@ -1,6 +1,6 @@
-//! One step of the monitor, whose turn it is, and the due message.
+//! A conversation's state, one step of the monitor, whose turn it is, and the due message.
 
-use super::{ffi, Question, Table};
+use super::{ffi, Question, Table, MOST_BRANCHES, MOST_STATES};
 
 /// A party to the conversation: the side that a message comes from.
 #[repr(u8)]
@@ -15,7 +15,7 @@ pub enum Party {
 impl Party {
     /// The party of an answer's code, 0 or 1.
     #[inline]
-    fn of(code: u32) -> Party {
+    pub(super) fn of(code: u32) -> Party {
         if code == 0 {
             Party::Device
         } else {
@@ -41,34 +41,25 @@ impl Standing {
     pub const HOST_BLAMED: Standing = Standing(2);
 }
 
-/// The state of one conversation, two bytes. A gateway keeps one for each, and lends it to each step to be advanced.
+/// The state of one conversation, 324 bytes. A gateway keeps one for each, which [`Table::fresh`] makes, and lends it to each step
+/// to be advanced.
+///
+/// Any numbers may stand in it: every call asks question 9 first, and refuses a position that is no state of the table, a setting
+/// outside 1 to 1000, and counts of a choice whose k do not add up to its n or whose n is above 10,000. Counts that belong to no
+/// choice of the table mean nothing, though `==` compares them too.
 #[repr(C)]
-#[derive(Clone, Copy, Debug, PartialEq, Eq, PartialOrd, Ord, Hash)]
+#[derive(Clone, Copy, Debug, PartialEq, Eq, Hash)]
 pub struct State {
     /// The state of the protocol's table that the conversation has come to.
     pub position: u8,
     /// Whether it is running.
     pub standing: Standing,
-}
-
-impl State {
-    /// Of a conversation that begins: position 0, running.
-    ///
-    /// ```
-    /// use sojimu::{Standing, State};
-    ///
-    /// assert_eq!(State::fresh(), State { position: 0, standing: Standing::RUNNING });
-    /// ```
-    #[inline]
-    pub fn fresh() -> State {
-        ffi::sojimu_fresh()
-    }
-}
-
-impl Default for State {
-    fn default() -> State {
-        State::fresh()
-    }
+    /// The setting z of its warnings: how many standard deviations a branch may be off its share, in hundredths, 1 to 1000.
+    pub setting: u16,
+    /// The count n of each choice, by the number of the state: how many messages were forwarded there, until they are 10,000.
+    pub n: [u16; MOST_STATES],
+    /// The count k of each branch: how many of them were the branch's.
+    pub k: [u16; MOST_BRANCHES],
 }
 
 /// Why a sender is blamed.
@@ -100,7 +91,7 @@ impl Reason {
 /// What a step says of a message.
 #[derive(Clone, Copy, Debug, PartialEq, Eq, Hash)]
 pub enum Verdict {
-    /// The message's bytes open the output, and the position has moved on.
+    /// The message's bytes open the output, the position has moved on, and the counts have risen.
     Forwarded,
     /// A question got a no, and nothing has changed. 12 means that it is the other side's turn: the message may only be early.
     Refused(Question),
@@ -136,13 +127,35 @@ pub struct Due<'a> {
 }
 
 impl Table {
+    /// The state of a conversation that begins: position 0, running, nothing counted; with the setting of its warnings, in
+    /// hundredths. Asks 9, then 21.
+    ///
+    /// ```
+    /// use sojimu::{Question, Standing, State, Table};
+    ///
+    /// let protocol = Table::read(b"+{!A().end}")?;
+    /// let begun = State { position: 0, standing: Standing::RUNNING, setting: 200, n: [0; 32], k: [0; 128] };
+    /// assert_eq!(protocol.fresh(200)?, begun);
+    /// assert_eq!(protocol.fresh(0), Err(Question(21)));
+    /// assert_eq!(Table::empty().fresh(0), Err(Question(9)));
+    /// # Ok::<(), Box<dyn std::error::Error>>(())
+    /// ```
+    #[inline]
+    pub fn fresh(&self, setting: u32) -> Result<State, Question> {
+        let started = ffi::sojimu_fresh(self, setting);
+        match Question::of(started.question) {
+            None => Ok(started.state),
+            Some(question) => Err(question),
+        }
+    }
+
     /// One step: a message of one side is forwarded into `out`, refused or blamed, and the state advanced. Asks 9 to 16.
     ///
     /// ```
-    /// use sojimu::{Party, Question, Reason, State, Table, Verdict};
+    /// use sojimu::{Party, Question, Reason, Table, Verdict};
     ///
     /// let protocol = Table::read(b"rec X.+{!Ask(int[0..100]).&{?Ok().X},!Quit().end}")?;
-    /// let mut state = State::fresh();
+    /// let mut state = protocol.fresh(200)?;
     /// let mut out = [0; 300];
     /// let ok = b"Ok\0\0\0\0\0\0\0";
     /// let early = protocol.step(&mut state, Party::Host, ok, &mut out);
@@ -152,7 +165,7 @@ impl Table {
     /// assert_eq!(blamed, Verdict::Blamed(Party::Device, Reason::OutOfRange(0)));
     /// let after = protocol.step(&mut state, Party::Device, ask, &mut out);
     /// assert_eq!(after, Verdict::Refused(Question(10)));
-    /// # Ok::<(), sojimu::Refusal>(())
+    /// # Ok::<(), Box<dyn std::error::Error>>(())
     /// ```
     #[inline]
     pub fn step(&self, state: &mut State, side: Party, message: &[u8], out: &mut [u8]) -> Verdict {
@@ -162,17 +175,18 @@ impl Table {
     /// Whose turn it is. Asks 9, 10 and 11.
     ///
     /// ```
-    /// use sojimu::{Party, Question, State, Table};
+    /// use sojimu::{Party, Question, Table};
     ///
     /// let protocol = Table::read(b"&{?Start().end}")?;
-    /// assert_eq!(protocol.turn(State::fresh()), Ok(Party::Host));
-    /// let ended = State { position: 1, ..State::fresh() };
-    /// assert_eq!(protocol.turn(ended), Err(Question(11)));
-    /// # Ok::<(), sojimu::Refusal>(())
+    /// let mut state = protocol.fresh(200)?;
+    /// assert_eq!(protocol.turn(&state), Ok(Party::Host));
+    /// state.position = 1;
+    /// assert_eq!(protocol.turn(&state), Err(Question(11)));
+    /// # Ok::<(), Box<dyn std::error::Error>>(())
     /// ```
     #[inline]
-    pub fn turn(&self, state: State) -> Result<Party, Question> {
-        let turn = ffi::sojimu_turn(self, state);
+    pub fn turn(&self, state: &State) -> Result<Party, Question> {
+        let turn = ffi::turn(self, state);
         match Question::of(turn.question) {
             None => Ok(Party::of(turn.side)),
             Some(question) => Err(question),
@@ -183,16 +197,17 @@ impl Table {
     /// start, when 13 or 14 would refuse it or it is not all there; when 9, 10 or 11 would, at the device's start.
     ///
     /// ```
-    /// use sojimu::{Party, State, Table};
+    /// use sojimu::{Party, Table};
     ///
     /// let protocol = Table::read(b"&{?Start().+{!Done().end}}")?;
+    /// let state = protocol.fresh(200)?;
     /// let (device, host) = (b"Done\0\0\0\0\0", b"Start\0\0\0\0Sto");
-    /// let due = protocol.due(State::fresh(), device, host);
+    /// let due = protocol.due(&state, device, host);
     /// assert_eq!((due.side, due.message), (Party::Host, &host[..9]));
-    /// # Ok::<(), sojimu::Refusal>(())
+    /// # Ok::<(), Box<dyn std::error::Error>>(())
     /// ```
     #[inline]
-    pub fn due<'a>(&self, state: State, device: &'a [u8], host: &'a [u8]) -> Due<'a> {
+    pub fn due<'a>(&self, state: &State, device: &'a [u8], host: &'a [u8]) -> Due<'a> {
         let due = ffi::due(self, state, device, host);
         let length = due.length as usize;
         match Party::of(due.side) {

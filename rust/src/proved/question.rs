@@ -1,9 +1,9 @@
-//! Refusals: the questions of document 01 by their numbers.
+//! Refusals: the questions of documents 01 and 02 by their numbers.
 
 use std::error::Error;
 use std::fmt;
 
-/// A question of document 01 that got a no, by its number.
+/// A question of document 01, or of a request of document 02, that got a no, by its number.
 ///
 /// ```
 /// use sojimu::Question;
@@ -12,18 +12,18 @@ use std::fmt;
 /// ```
 #[derive(Clone, Copy, Debug, PartialEq, Eq, PartialOrd, Ord, Hash)]
 pub struct Question(
-    /// The number: 1 to 18.
+    /// The number: 1 to 21.
     pub u8,
 );
 
 impl Question {
-    /// The question in words; of a number that document 01 has not, nothing.
+    /// The question in words; of a number that is none of theirs, nothing.
     ///
     /// ```
     /// use sojimu::Question;
     ///
-    /// assert_eq!(Question(9).words(), "is the table sound, and the position one of its states?");
-    /// assert_eq!(Question(19).words(), "");
+    /// assert_eq!(Question(21).words(), "is the setting 1 to 1000?");
+    /// assert_eq!(Question(22).words(), "");
     /// ```
     pub fn words(self) -> &'static str {
         match self.0 {
@@ -35,7 +35,7 @@ impl Question {
             6 => "is the number within its kind, and high not below low?",
             7 => "is the label new in its choice?",
             8 => "is the token within the limits?",
-            9 => "is the table sound, and the position one of its states?",
+            9 => "is the table sound, the position one of its states, and are the counts sound?",
             10 => "is the standing running?",
             11 => "is the position not an end?",
             12 => "is it this side's turn?",
@@ -45,6 +45,9 @@ impl Question {
             16 => "does the output buffer hold the message?",
             17 => "has the list device states times protocol states entries?",
             18 => "does the branch exist, and has it the named field?",
+            19 => "is the share 1 to 1000?",
+            20 => "has the choice no shares, or one for each branch, which add to 1000?",
+            21 => "is the setting 1 to 1000?",
             _ => "",
         }
     }
@@ -75,7 +78,7 @@ impl Error for Question {}
 /// ```
 #[derive(Clone, Copy, Debug, PartialEq, Eq, Hash)]
 pub struct Refusal {
-    /// The question that got a no, 1 to 8.
+    /// The question that got a no: 1 to 8, 19 or 20.
     pub question: Question,
     /// The first byte of the token; the text's length when the text ran out.
     pub at: usize,

@@ -48,8 +48,10 @@ pub struct Table {
     pub low: [u32; MOST_FIELDS * MOST_BRANCHES],
     /// The greatest number of the field, plus 2^31.
     pub high: [u32; MOST_FIELDS * MOST_BRANCHES],
+    /// The share of the branch in thousandths, 1 to 1000; 0 where it carries none.
+    pub share: [u32; MOST_BRANCHES],
     /// Nothing looks at these.
-    pub reserved: [u32; 130],
+    pub reserved: [u32; 2],
 }
 
 impl Table {
@@ -63,7 +65,7 @@ impl Table {
         ffi::sojimu_empty()
     }
 
-    /// Reads a protocol text; asks 1 to 8.
+    /// Reads a protocol text; asks 1 to 8, 19 and 20.
     ///
     /// ```
     /// use sojimu::{Question, Table};
@@ -79,6 +81,17 @@ impl Table {
     /// # use sojimu::Table;
     /// let table = Table::read(b"rec Y.+{!A().rec X.Y}")?;
     /// assert_eq!((table.states, table.branches, table.target[0]), (1, 1, 0));
+    /// # Ok::<(), sojimu::Refusal>(())
+    /// ```
+    ///
+    /// The branches of a choice may carry shares, which add to 1000:
+    ///
+    /// ```
+    /// # use sojimu::{Question, Table};
+    /// let table = Table::read(b"+{!Knot()@10.end,!Clear()@990.end}")?;
+    /// assert_eq!(table.share[..2], [10, 990]);
+    /// let refusal = Table::read(b"+{!Knot()@10.end,!Clear().end}").unwrap_err();
+    /// assert_eq!((refusal.question, refusal.at), (Question(20), 29));
     /// # Ok::<(), sojimu::Refusal>(())
     /// ```
     #[inline]

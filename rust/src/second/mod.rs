@@ -9,7 +9,7 @@
 //! use sojimu::second::{message, monitor::*, text};
 //!
 //! let protocol = text::read(b"rec X.+{!Ask(int[0..100]).&{?Ok().X},!Quit().end}").unwrap();
-//! let mut state = State::fresh();
+//! let mut state = State::fresh(&protocol, 200).unwrap();
 //! let mut ask = [0; 14];
 //! message::make(&protocol, 0, Some(0), &mut ask).unwrap();
 //! let mut output = [0; 300];
@@ -31,3 +31,4 @@ pub mod substituted;
 pub mod table;
 pub mod text;
 pub mod tree;
+pub mod warning;

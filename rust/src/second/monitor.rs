@@ -1,7 +1,12 @@
-//! One step of the monitor, and the due message.
+//! One step of the monitor, and the due message; with the counts of document 02's request 4.
 
 use super::message::{front, read, Message};
-use super::table::{sound_at, Sort, Table};
+use super::table::{sound, sound_at, Sort, Table, MOST_BRANCHES, MOST_STATES};
+
+/// The most that n is raised to.
+pub const MOST_COUNTED: u32 = 10_000;
+/// The greatest setting z, in hundredths; the least is 1.
+pub const GREATEST_SETTING: u32 = 1000;
 
 #[derive(Clone, Copy, Debug, PartialEq, Eq)]
 pub enum Side {
@@ -16,17 +21,50 @@ pub enum Standing {
     HostBlamed,
 }
 
-/// The state of a conversation.
+/// The state of a conversation. It "gains a count n for each choice and k for each branch", and the setting z.
 #[derive(Clone, Copy, Debug, PartialEq, Eq)]
 pub struct State {
     pub position: usize,
     pub standing: Standing,
+    pub setting: u32,
+    pub n: [u32; MOST_STATES],
+    pub k: [u32; MOST_BRANCHES],
 }
 
 impl State {
-    pub fn fresh() -> State {
-        State { position: 0, standing: Standing::Running }
+    /// A conversation is made: asks 9, then "21 for z outside 1 to 1000".
+    pub fn fresh(table: &Table, setting: u32) -> Result<State, u8> {
+        if !sound(table) {
+            return Err(9);
+        }
+        if !(1..=GREATEST_SETTING).contains(&setting) {
+            return Err(21);
+        }
+        Ok(State { position: 0, standing: Standing::Running, setting, n: [0; MOST_STATES], k: [0; MOST_BRANCHES] })
     }
+
+    /// Of question 9, "that in a conversation's state each choice's k add up to its n, at most 10,000, and that z is 1 to 1000".
+    fn counts_sound(&self, table: &Table) -> bool {
+        let adds_up = |choice: usize| {
+            let sum: u64 = table.branches_of(choice).into_iter().map(|branch| u64::from(self.k[branch])).sum();
+            sum == u64::from(self.n[choice]) && self.n[choice] <= MOST_COUNTED
+        };
+        let mut choices = (0..table.states.len()).filter(|&state| table.states[state] != Sort::End);
+        (1..=GREATEST_SETTING).contains(&self.setting) && choices.all(adds_up)
+    }
+
+    /// "Raised on forwarding, until n is 10,000."
+    fn count(&mut self, choice: usize, branch: usize) {
+        if self.n[choice] < MOST_COUNTED {
+            self.n[choice] += 1;
+            self.k[branch] += 1;
+        }
+    }
+}
+
+/// Question 9 of a table and a conversation's state.
+pub fn state_sound(table: &Table, state: &State) -> bool {
+    sound_at(table, state.position) && state.counts_sound(table)
 }
 
 /// Why a sender is blamed: reasons 1, 2 and 3, the last with the first field out of its range.
@@ -65,7 +103,7 @@ pub fn turn(sort: Sort) -> Option<Side> {
 
 /// Whose turn it is in a conversation: 9, 10 and 11.
 pub fn awaited(table: &Table, state: &State) -> Result<Side, u8> {
-    if !sound_at(table, state.position) {
+    if !state_sound(table, state) {
         return Err(9);
     }
     if state.standing != Standing::Running {
@@ -89,9 +127,10 @@ pub fn step(table: &Table, state: &mut State, side: Side, message: &[u8], output
         return Verdict::Refused(16);
     }
     match judge(table, state.position, &parsed) {
-        Ok(target) => {
+        Ok(branch) => {
             output[..message.len()].copy_from_slice(message);
-            state.position = target;
+            state.count(state.position, branch);
+            state.position = table.branches[branch].target;
             Verdict::Forwarded
         }
         Err(reason) => {
@@ -104,17 +143,18 @@ pub fn step(table: &Table, state: &mut State, side: Side, message: &[u8], output
     }
 }
 
-/// The message judged against a position's branches: the target it moves to, or the reason to blame its sender.
+/// The message judged against a position's branches: the number of the one that it takes, or the reason to blame its sender.
 pub fn judge(table: &Table, position: usize, message: &Message) -> Result<usize, Reason> {
-    let named = table.branches.iter().find(|branch| branch.owner == position && branch.label == message.label);
-    let branch = named.ok_or(Reason::Label)?;
+    let named = table.branches.iter().position(|branch| branch.owner == position && branch.label == message.label);
+    let number = named.ok_or(Reason::Label)?;
+    let branch = &table.branches[number];
     if branch.kinds() != message.kinds() {
         return Err(Reason::Kinds);
     }
     let outside = branch.fields.iter().zip(&message.fields).position(|(field, &(_, number))| !field.holds(number));
     match outside {
         Some(field) => Err(Reason::Range(field)),
-        None => Ok(branch.target),
+        None => Ok(number),
     }
 }
 

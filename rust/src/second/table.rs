@@ -1,4 +1,4 @@
-//! Tables: states and branches, question 9, the dual, and the raw form in words.
+//! Tables: states and branches, with the shares of document 02's request 4; question 9, the dual, and the raw form in words.
 
 /// The most states of a table.
 pub const MOST_STATES: usize = 32;
@@ -8,6 +8,8 @@ pub const MOST_BRANCHES: usize = 128;
 pub const MOST_FIELDS: usize = 4;
 /// The most bytes of a text in a message.
 pub const LONGEST_TEXT: i64 = 64;
+/// What the shares of a choice add to, and the most of one of them, in thousandths.
+pub const SHARES: u32 = 1000;
 /// The bytes of a label, filled up with 0x00.
 pub const LABEL_BYTES: usize = 8;
 
@@ -104,6 +106,8 @@ pub struct Branch {
     pub owner: usize,
     pub label: Label,
     pub fields: Vec<Field>,
+    /// "After `)` a branch may carry `@` and a share in thousandths."
+    pub share: Option<u32>,
     pub target: usize,
 }
 
@@ -156,7 +160,7 @@ pub fn sound(table: &Table) -> bool {
     let states = table.states.len();
     (1..=MOST_STATES).contains(&states)
         && table.branches.len() <= MOST_BRANCHES
-        && (0..states).all(|state| owns_rightly(table, state) && labels_differ(table, state))
+        && (0..states).all(|state| owns_rightly(table, state) && labels_differ(table, state) && shares_right(table, state))
         && table.branches.iter().all(|branch| {
             legal_label(&branch.label) && fields_legal(&branch.fields) && branch.owner < states && branch.target < states
         })
@@ -178,6 +182,22 @@ fn labels_differ(table: &Table, state: usize) -> bool {
         met.push(label);
     }
     true
+}
+
+/// Question 9 "now also asks that a table's shares keep these rules": each is 1 to 1000 (19), and no choice "mixes branches with
+/// and without shares" or has shares that "don't add to 1000" (20).
+fn shares_right(table: &Table, state: usize) -> bool {
+    let shares: Vec<Option<u32>> = table.branches_of(state).into_iter().map(|b| table.branches[b].share).collect();
+    shares.iter().flatten().all(|share| (1..=SHARES).contains(share)) && choice_right(&shares)
+}
+
+/// Has no branch of a choice a share, or each one, and do they add to 1000?
+pub fn choice_right(shares: &[Option<u32>]) -> bool {
+    if shares.iter().all(Option::is_none) {
+        return true;
+    }
+    let sum: u64 = shares.iter().flatten().map(|&share| u64::from(share)).sum();
+    shares.iter().all(Option::is_some) && sum == u64::from(SHARES)
 }
 
 /// "Fields keep the limits above and no range is empty."
@@ -205,13 +225,13 @@ pub fn dual(table: &Table) -> Result<Table, u8> {
 }
 
 /// The words that a raw table has beyond its columns.
-pub const RESERVED: usize = 130;
+pub const RESERVED: usize = 2;
 
 /// A table as a plain struct of words in columns, as it crosses a C boundary.
 ///
-/// State s has its sort at s (0 end, 1 sends, 2 receives). Branch b has its owner, target, field count and label (eight bytes,
-/// high byte first, in two words) at b; field f of branch b stands at 4b + f: its kind (0 int, 1 text, 2 flag), and low and high as
-/// the value plus 2^31. Entries beyond the counts mean nothing, and the reserved words never do.
+/// State s has its sort at s (0 end, 1 sends, 2 receives). Branch b has its owner, target, field count, label (eight bytes, high
+/// byte first, in two words) and share (0 for none) at b; field f of branch b stands at 4b + f: its kind (0 int, 1 text, 2 flag),
+/// and low and high as the value plus 2^31. Entries beyond the counts mean nothing, and the reserved words never do.
 #[repr(C)]
 #[derive(Clone, Debug, PartialEq, Eq)]
 pub struct Raw {
@@ -226,6 +246,7 @@ pub struct Raw {
     pub kind: [u32; MOST_FIELDS * MOST_BRANCHES],
     pub low: [u32; MOST_FIELDS * MOST_BRANCHES],
     pub high: [u32; MOST_FIELDS * MOST_BRANCHES],
+    pub share: [u32; MOST_BRANCHES],
     pub reserved: [u32; RESERVED],
 }
 
@@ -244,6 +265,7 @@ impl Raw {
             kind: [0; MOST_FIELDS * MOST_BRANCHES],
             low: [0; MOST_FIELDS * MOST_BRANCHES],
             high: [0; MOST_FIELDS * MOST_BRANCHES],
+            share: [0; MOST_BRANCHES],
             reserved: [0; RESERVED],
         }
     }
@@ -264,6 +286,7 @@ impl Raw {
             raw.target[b] = branch.target as u32;
             raw.fields[b] = branch.fields.len() as u32;
             raw.set_label(b, branch.label);
+            raw.share[b] = branch.share.unwrap_or(0);
             for (f, field) in branch.fields.iter().enumerate() {
                 raw.kind[MOST_FIELDS * b + f] = field.kind.code().into();
                 raw.low[MOST_FIELDS * b + f] = offset(field.low);
@@ -340,6 +363,7 @@ impl Raw {
             owner: index(self.owner[b]),
             label: self.label(b),
             fields: (0..count).map(field).collect::<Option<_>>()?,
+            share: (self.share[b] != 0).then_some(self.share[b]),
             target: index(self.target[b]),
         })
     }

@@ -1,6 +1,9 @@
-//! Protocol texts: tokens, grammar, and questions 1 to 8 in the order of the document, 5 as request 1 of document 02 amends it.
+//! Protocol texts: tokens, grammar, and questions 1 to 8 in the order of the document, 5 as request 1 of document 02 amends it;
+//! with the shares of its request 4, and 19 and 20.
 
-use super::table::{Branch, Field, Kind, Label, Sort, Table, LABEL_BYTES, MOST_BRANCHES, MOST_FIELDS, MOST_STATES};
+use super::table::{
+    choice_right, Branch, Field, Kind, Label, Sort, Table, LABEL_BYTES, MOST_BRANCHES, MOST_FIELDS, MOST_STATES, SHARES,
+};
 
 /// The most bytes of a text.
 pub const LONGEST_PROTOCOL: usize = 8192;
@@ -37,7 +40,7 @@ enum Token<'a> {
     Dot,
     /// `..`
     Dots,
-    /// One of `+ & { } ( ) [ ] , ! ?`
+    /// One of `+ & { } ( ) [ ] , ! ? @`
     Sign(u8),
     EndOfText,
 }
@@ -85,7 +88,7 @@ impl<'a> Reader<'a> {
                 2 => Some(Token::Dots),
                 _ => None,
             },
-            b'+' | b'&' | b'{' | b'}' | b'(' | b')' | b'[' | b']' | b',' | b'!' | b'?' => {
+            b'+' | b'&' | b'{' | b'}' | b'(' | b')' | b'[' | b']' | b',' | b'!' | b'?' | b'@' => {
                 self.at += 1;
                 Some(Token::Sign(first))
             }
@@ -186,7 +189,10 @@ impl<'a> Reader<'a> {
             self.branch(owner, mark)?;
             match self.token()? {
                 (Token::Sign(b','), _) => {}
-                (Token::Sign(b'}'), _) => break,
+                (Token::Sign(b'}'), place) => {
+                    self.shares_add(owner, place)?;
+                    break;
+                }
                 (_, place) => return Err((3, place)),
             }
         }
@@ -194,7 +200,14 @@ impl<'a> Reader<'a> {
         Ok(owner)
     }
 
-    /// "send branch: `!` label `(` fields `)` `.` type. A receive branch has `?`."
+    /// "20 at a closing brace whose choice mixes branches with and without shares, or whose shares don't add to 1000."
+    fn shares_add(&self, owner: usize, brace: usize) -> Result<(), Refusal> {
+        let shares: Vec<Option<u32>> = self.table.branches.iter().filter(|b| b.owner == owner).map(|b| b.share).collect();
+        choice_right(&shares).then_some(()).ok_or((20, brace))
+    }
+
+    /// "send branch: `!` label `(` fields `)` `.` type. A receive branch has `?`." Document 02: "After `)` a branch may carry `@` and
+    /// a share in thousandths."
     fn branch(&mut self, owner: usize, mark: u8) -> Result<(), Refusal> {
         match self.token()? {
             (Token::Sign(sign), place) if sign == mark => {
@@ -210,11 +223,29 @@ impl<'a> Reader<'a> {
         }
         self.expect(Token::Sign(b'('))?;
         let fields = self.fields()?;
-        self.expect(Token::Dot)?;
+        let share = self.share()?;
         let number = self.table.branches.len();
-        self.table.branches.push(Branch { owner, label, fields, target: 0 });
+        self.table.branches.push(Branch { owner, label, fields, share, target: 0 });
         self.table.branches[number].target = self.read_type()?;
         Ok(())
+    }
+
+    /// `@` and a share, or nothing, and the `.` after it; asks 2, 3 and "19 at a share outside 1 to 1000".
+    fn share(&mut self) -> Result<Option<u32>, Refusal> {
+        match self.token()? {
+            (Token::Dot, _) => return Ok(None),
+            (Token::Sign(b'@'), _) => {}
+            (_, place) => return Err((3, place)),
+        }
+        let share = match self.token()? {
+            (Token::Number { negative, digits }, place) => match value(negative, digits) {
+                Some(share) if (1..=i64::from(SHARES)).contains(&share) => share as u32,
+                _ => return Err((19, place)),
+            },
+            (_, place) => return Err((3, place)),
+        };
+        self.expect(Token::Dot)?;
+        Ok(Some(share))
     }
 
     /// "fields: none, or one or more separated by `,`", and the `)` after them.

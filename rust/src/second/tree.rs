@@ -108,7 +108,7 @@ impl<'a> Tokens<'a> {
                 _ => {}
             }
         }
-        self.next()?;
+        while self.next()? != b"." {}
         Some(Branch { label, fields, then: self.read_type()? })
     }
 }

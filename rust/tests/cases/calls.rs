@@ -4,8 +4,8 @@ use sojimu::compare;
 use sojimu::second::fit::{self, Answer};
 use sojimu::second::report;
 use sojimu::second::table::Raw;
-use sojimu::second::{batch, message, monitor, text};
-use sojimu::{Batch, Fitting, Party, Question, State, Table, Verdict};
+use sojimu::second::{batch, message, monitor, text, warning};
+use sojimu::{Batch, Fitting, Party, Question, State, Table, Verdict, Warning};
 
 /// One implementation. A question that gets a no is its number.
 pub trait Calls {
@@ -20,9 +20,13 @@ pub trait Calls {
     fn make(&self, table: &Raw, branch: u32, high: Option<u32>, out: &mut [u8]) -> Result<usize, u8>;
     /// The table, or the question and the place.
     fn read(&self, text: &[u8]) -> Result<Raw, (u8, usize)>;
-    fn fresh(&self) -> State;
+    /// The state, or the question.
+    fn fresh(&self, table: &Raw, setting: u32) -> Result<State, u8>;
+    /// Whose turn it is, or the question.
+    fn turn(&self, table: &Raw, state: &State) -> Result<Party, u8>;
+    fn warning(&self, table: &Raw, state: &State, branch: u32) -> Result<Warning, u8>;
     fn step(&self, table: &Raw, state: &mut State, side: Party, message: &[u8], out: &mut [u8]) -> Verdict;
-    fn due<'a>(&self, table: &Raw, state: State, device: &'a [u8], host: &'a [u8]) -> &'a [u8];
+    fn due<'a>(&self, table: &Raw, state: &State, device: &'a [u8], host: &'a [u8]) -> &'a [u8];
     fn batch(
         &self,
         table: &Raw,
@@ -79,15 +83,23 @@ impl Calls for Proved {
         }
     }
 
-    fn fresh(&self) -> State {
-        State::fresh()
+    fn fresh(&self, table: &Raw, setting: u32) -> Result<State, u8> {
+        Table::from(table).fresh(setting).map_err(|question| question.0)
+    }
+
+    fn turn(&self, table: &Raw, state: &State) -> Result<Party, u8> {
+        Table::from(table).turn(state).map_err(|question| question.0)
+    }
+
+    fn warning(&self, table: &Raw, state: &State, branch: u32) -> Result<Warning, u8> {
+        Table::from(table).warning(state, branch).map_err(|question| question.0)
     }
 
     fn step(&self, table: &Raw, state: &mut State, side: Party, message: &[u8], out: &mut [u8]) -> Verdict {
         Table::from(table).step(state, side, message, out)
     }
 
-    fn due<'a>(&self, table: &Raw, state: State, device: &'a [u8], host: &'a [u8]) -> &'a [u8] {
+    fn due<'a>(&self, table: &Raw, state: &State, device: &'a [u8], host: &'a [u8]) -> &'a [u8] {
         Table::from(table).due(state, device, host).message
     }
 
@@ -155,22 +167,31 @@ impl Calls for Second {
         text::read(text).map(|table| Raw::of(&table))
     }
 
-    fn fresh(&self) -> State {
-        compare::state_codes(monitor::State::fresh())
+    fn fresh(&self, table: &Raw, setting: u32) -> Result<State, u8> {
+        monitor::State::fresh(&table.table(), setting).map(|state| compare::state_codes(&state))
+    }
+
+    fn turn(&self, table: &Raw, state: &State) -> Result<Party, u8> {
+        monitor::awaited(&table.table(), &compare::state(state)).map(compare::party)
+    }
+
+    fn warning(&self, table: &Raw, state: &State, branch: u32) -> Result<Warning, u8> {
+        let told = warning::warning(&table.table(), &compare::state(state), branch as usize)?;
+        Ok(Warning { warns: told.warns, sender: compare::party(told.sender), estimate: told.estimate })
     }
 
     fn step(&self, table: &Raw, state: &mut State, side: Party, message: &[u8], out: &mut [u8]) -> Verdict {
-        let mut own = compare::state(*state);
+        let mut own = compare::state(state);
         let side = match side {
             Party::Device => monitor::Side::Device,
             Party::Host => monitor::Side::Host,
         };
         let verdict = monitor::step(&table.table(), &mut own, side, message, out);
-        *state = compare::state_after(*state, own);
+        *state = compare::state_after(state, &own);
         compare::verdict(verdict)
     }
 
-    fn due<'a>(&self, table: &Raw, state: State, device: &'a [u8], host: &'a [u8]) -> &'a [u8] {
+    fn due<'a>(&self, table: &Raw, state: &State, device: &'a [u8], host: &'a [u8]) -> &'a [u8] {
         let part = monitor::due(&table.table(), &compare::state(state), device, host);
         match part.side {
             monitor::Side::Device => &device[..part.length],
@@ -187,9 +208,9 @@ impl Calls for Second {
         to_device: &mut [u8],
         to_host: &mut [u8],
     ) -> Batch {
-        let mut own = compare::state(*state);
+        let mut own = compare::state(state);
         let batch = batch::batch(&table.table(), &mut own, device, host, to_device, to_host);
-        *state = compare::state_after(*state, own);
+        *state = compare::state_after(state, &own);
         compare::batch(batch)
     }
 

@@ -9,7 +9,7 @@ use calls::{Calls, Proved, Second};
 use sojimu::second::brute::explore;
 use sojimu::second::fit::{shows_no_fit, Answer};
 use sojimu::second::table::Raw;
-use sojimu::{Batch, Party, Reason, Standing, State, Verdict};
+use sojimu::{Batch, Party, Reason, Standing, State, Verdict, Warning, MOST_BRANCHES, MOST_STATES};
 use std::path::Path;
 
 const UNTOUCHED: u8 = 0xEE;
@@ -17,8 +17,11 @@ const UNTOUCHED_ENTRY: u16 = 0xEEEE;
 const NO_FIELD: u64 = 0xFF;
 /// In the place of a verdict.
 const NONE_DUE: [u64; 4] = [3, 0, 0, 0];
+/// The setting of every conversation, in hundredths.
+const SETTING: u16 = 200;
 /// From this number on, what names a field names none; it also ends a text among other numbers.
 const NO_BYTE: u64 = 0x100;
+const NO_ESTIMATE: u64 = 0xFFFF;
 
 #[test]
 fn tables() {
@@ -55,6 +58,16 @@ fn batches() {
     run("batches", 90);
 }
 
+#[test]
+fn counts() {
+    run("counts", 90);
+}
+
+#[test]
+fn warnings() {
+    run("warnings", 60);
+}
+
 /// Runs a file, which has at least so many cases, through both.
 fn run(name: &str, least: usize) {
     run_through(name, least, "second", &Second);
@@ -64,7 +77,7 @@ fn run(name: &str, least: usize) {
 fn run_through(name: &str, least: usize, which: &str, calls: &dyn Calls) {
     let path = Path::new(env!("CARGO_MANIFEST_DIR")).join("../crates/cases/data").join(name);
     let lines = std::fs::read(&path).unwrap();
-    let mut run = Run { calls, table: Raw::empty(), state: calls.fresh() };
+    let mut run = Run { calls, table: Raw::empty(), state: uncounted(0, Standing::RUNNING) };
     let mut cases = 0;
     let mut wrong = Vec::new();
     for (number, line) in lines.split(|&byte| byte == b'\n').enumerate() {
@@ -145,6 +158,7 @@ impl Run<'_> {
             'k' => self.make(&edited(&self.table, &given[3..]), word(given[0]), given[1], given[2] as usize),
             'q' => self.read(&bytes(given))[..4].to_vec(),
             'r' => self.read(&bytes(given)),
+            'l' => self.read_shares(&bytes(given)),
             'x' => self.fit(given),
             'y' => self.fit(given)[..2].to_vec(),
             'o' => self.report(given),
@@ -155,8 +169,15 @@ impl Run<'_> {
 
     fn monitor(&mut self, command: char, given: &[u64]) -> Vec<u64> {
         match command {
+            'f' => self.start(word(given[0])),
+            'i' => {
+                self.state = self.state(&given[..2], given[2], &given[3..]);
+                vec![self.calls.turn(&self.table, &self.state).err().unwrap_or(0).into()]
+            }
+            'e' => self.counts(),
+            'd' => self.warning(given),
             'g' => {
-                self.state = self.calls.fresh();
+                self.state = self.calls.fresh(&self.table, SETTING.into()).unwrap();
                 vec![self.state.position.into(), self.state.standing.0.into()]
             }
             's' => {
@@ -219,6 +240,51 @@ impl Run<'_> {
         numbers
     }
 
+    /// The question and its place, or 0 and 0 and the share of each branch.
+    fn read_shares(&self, text: &[u8]) -> Vec<u64> {
+        match self.calls.read(text) {
+            Ok(raw) => [0, 0].into_iter().chain(raw.share[..raw.branches as usize].iter().map(|&share| share.into())).collect(),
+            Err((question, place)) => vec![question.into(), place as u64],
+        }
+    }
+
+    /// A conversation with a setting. Where it is refused, the counts of its state are all 0.
+    fn start(&mut self, setting: u32) -> Vec<u64> {
+        let started = self.calls.fresh(&self.table, setting);
+        self.state = started.unwrap_or(State { setting: 0, ..uncounted(0, Standing::RUNNING) });
+        let State { position, standing, setting, .. } = self.state;
+        vec![started.err().unwrap_or(0).into(), position.into(), standing.0.into(), setting.into()]
+    }
+
+    /// A state with a setting, n of each state of the table, and k of each branch.
+    fn state(&self, place: &[u64], setting: u64, counts: &[u64]) -> State {
+        let (n, k) = counts.split_at(self.table.states as usize);
+        assert_eq!(k.len(), self.table.branches as usize);
+        let mut state = State { setting: half(setting), ..state(place) };
+        state.n.iter_mut().zip(n).for_each(|(count, &number)| *count = half(number));
+        state.k.iter_mut().zip(k).for_each(|(count, &number)| *count = half(number));
+        state
+    }
+
+    /// n of each state of the table, and k of each branch; those beyond are 0.
+    fn counts(&self) -> Vec<u64> {
+        let (n, beyond) = self.state.n.split_at(self.table.states as usize);
+        let (k, past) = self.state.k.split_at(self.table.branches as usize);
+        assert!(beyond.iter().chain(past).all(|&count| count == 0));
+        n.iter().chain(k).map(|&count| count.into()).collect()
+    }
+
+    /// Given: position, standing, setting, branch, n of each state of the table, k of each branch.
+    fn warning(&self, given: &[u64]) -> Vec<u64> {
+        let state = self.state(&given[..2], given[2], &given[4..]);
+        match self.calls.warning(&self.table, &state, word(given[3])) {
+            Ok(Warning { warns, sender, estimate }) => {
+                vec![0, warns.into(), sender as u64, estimate.map_or(NO_ESTIMATE, u64::from)]
+            }
+            Err(question) => vec![question.into(), 0, 0, NO_ESTIMATE],
+        }
+    }
+
     /// Given: side, room, message.
     fn step(&self, state: &mut State, given: &[u64]) -> Vec<u64> {
         let mut output = vec![UNTOUCHED; given[1] as usize];
@@ -248,7 +314,7 @@ impl Run<'_> {
     fn due(&self, given: &[u64]) -> Vec<u64> {
         let (device, host) = given[3..].split_at(given[2] as usize);
         let (device, host) = (bytes(device), bytes(host));
-        let part = self.calls.due(&self.table, state(given), &device, &host);
+        let part = self.calls.due(&self.table, &state(given), &device, &host);
         let mut numbers = vec![part.len() as u64];
         numbers.extend(part.iter().map(|&byte| u64::from(byte)));
         numbers
@@ -336,6 +402,10 @@ fn bytes(numbers: &[u64]) -> Vec<u8> {
     numbers.iter().map(|&number| u8::try_from(number).unwrap()).collect()
 }
 
+fn half(number: u64) -> u16 {
+    u16::try_from(number).unwrap()
+}
+
 fn word(number: u64) -> u32 {
     u32::try_from(number).unwrap()
 }
@@ -357,7 +427,12 @@ fn side(number: u64) -> Party {
 /// Given: position, standing.
 fn state(given: &[u64]) -> State {
     let byte = |number: u64| u8::try_from(number).unwrap();
-    State { position: byte(given[0]), standing: Standing(byte(given[1])) }
+    uncounted(byte(given[0]), Standing(byte(given[1])))
+}
+
+/// A state in which nothing is counted.
+fn uncounted(position: u8, standing: Standing) -> State {
+    State { position, standing, setting: SETTING, n: [0; MOST_STATES], k: [0; MOST_BRANCHES] }
 }
 
 /// The table with entries changed: column, index, value.
@@ -376,6 +451,7 @@ fn edited(table: &Raw, edits: &[u64]) -> Raw {
             7 => table.kind[index] = word(value),
             8 => table.low[index] = word(value),
             9 => table.high[index] = word(value),
+            10 => table.share[index] = word(value),
             column => panic!("no such column: {column}"),
         }
     }

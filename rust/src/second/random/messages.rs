@@ -3,7 +3,7 @@
 use super::tables::branch_for;
 use super::{fields, kind, label, number_of, Random};
 use crate::second::message::Message;
-use crate::second::monitor::{step, turn, Side, State};
+use crate::second::monitor::{step, turn, Side, State, GREATEST_SETTING};
 use crate::second::table::{Branch, Kind, Label, Table, LABEL_BYTES, MOST_FIELDS};
 
 fn message_of(random: &mut Random, label: Label, fields: Vec<(Kind, i64)>) -> Message {
@@ -140,8 +140,10 @@ pub struct Turn {
 /// the others say what the protocol allows at the position that the turns before lead to. With `faults` 0 no turn is.
 /// It goes on after an end or a blame, with messages of any state.
 pub fn conversation(random: &mut Random, table: &Table, turns: usize, faults: usize) -> Vec<Turn> {
-    let mut state = State::fresh();
     let mut all = Vec::new();
+    let Ok(mut state) = State::fresh(table, GREATEST_SETTING) else {
+        return all;
+    };
     for _ in 0..turns {
         let position = state.position;
         let own = table.branches_of(position);

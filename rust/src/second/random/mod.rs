@@ -1,4 +1,4 @@
-//! Seeded random texts, tables, messages, conversations, batches and pairs of tables, to compare implementations with.
+//! Seeded random texts, tables, states, messages, conversations, batches and pairs of tables, to compare implementations with.
 //!
 //! Everything follows from the seed alone: the same seed gives the same things on every machine. What is said to be legal or sound
 //! is so by construction; what is damaged may still be legal, and is to be asked.
@@ -7,6 +7,8 @@ mod batches;
 mod messages;
 mod names;
 mod pairs;
+mod shares;
+mod states;
 mod tables;
 mod texts;
 
@@ -14,6 +16,8 @@ pub use batches::*;
 pub use messages::*;
 pub use names::*;
 pub use pairs::*;
+pub use shares::*;
+pub use states::*;
 pub use tables::*;
 pub use texts::*;
 

@@ -4,7 +4,8 @@ use super::names::NAMES;
 use super::tables::branch_for;
 use super::texts::STRANGE_TOKENS;
 use super::{
-    field, fields, joined, label, named_tokens, number_of, put_name_after_recs, sound_table, tokens, Limits, Random, LABELS,
+    field, fields, joined, label, mend_shares, named_tokens, number_of, other_shares, put_name_after_recs, some_shares,
+    sound_table, tokens, without_shares, Limits, Random, LABELS,
 };
 use crate::second::table::{sound, Branch, Field, Kind, Sort, Table, MOST_BRANCHES, MOST_FIELDS, MOST_STATES};
 use crate::second::text::{read, LONGEST_PROTOCOL};
@@ -22,18 +23,7 @@ pub fn fitting_change(random: &mut Random, device: &Table) -> Table {
     match random.below(4) {
         0 | 1 if !table.branches[b].fields.is_empty() => {
             let f = random.below(table.branches[b].fields.len());
-            let field = &mut table.branches[b].fields[f];
-            let number = number_of(random, field.kind);
-            if !sends {
-                field.low = field.low.min(number);
-                field.high = field.high.max(number);
-            } else if field.holds(number) && random.one_in(2) {
-                field.low = number;
-            } else if field.holds(number) {
-                field.high = number;
-            } else {
-                field.high = field.low;
-            }
+            fitting_range(random, &mut table.branches[b].fields[f], sends);
         }
         2 if sends && table.branches_of(owner).len() > 1 => {
             table.branches.remove(b);
@@ -54,43 +44,34 @@ pub fn fitting_change(random: &mut Random, device: &Table) -> Table {
             }
         }
     }
+    mend_shares(random, &mut table);
     table
+}
+
+/// A range that is sent narrower, one that is taken wider.
+fn fitting_range(random: &mut Random, field: &mut Field, sends: bool) {
+    let number = number_of(random, field.kind);
+    if !sends {
+        field.low = field.low.min(number);
+        field.high = field.high.max(number);
+    } else if field.holds(number) && random.one_in(2) {
+        field.low = number;
+    } else if field.holds(number) {
+        field.high = number;
+    } else {
+        field.high = field.low;
+    }
 }
 
 /// A sound table that differs from this one in one thing, whether it then fits or not. Now and then it is the same.
 pub fn changed(random: &mut Random, table: &Table) -> Table {
+    if table.branches.is_empty() {
+        return table.clone();
+    }
     for _ in 0..20 {
         let mut new = table.clone();
-        let state = random.below(new.states.len());
-        if new.branches.is_empty() {
-            return new;
-        }
-        let b = random.below(new.branches.len());
-        let f = random.below(new.branches[b].fields.len());
-        match random.below(10) {
-            0..=2 => {
-                if let Some(field) = new.branches[b].fields.get_mut(f) {
-                    match random.below(4) {
-                        0 => field.low -= 1,
-                        1 => field.low += 1,
-                        2 => field.high -= 1,
-                        _ => field.high += 1,
-                    }
-                }
-            }
-            3 => new.branches[b].fields = fields(random, MOST_FIELDS),
-            4 => new.branches[b].label = label(random, &[]),
-            5 => new.branches[b].target = random.below(new.states.len()),
-            6 => new.states[state] = *random.pick(&[Sort::End, Sort::Sends, Sort::Receives]),
-            7 => new.branches[b].owner = state,
-            8 => {
-                new.branches.remove(b);
-            }
-            _ => {
-                let branch = branch_for(random, &new, state);
-                new.branches.insert(b, branch);
-            }
-        }
+        change_one(random, &mut new);
+        mend_shares(random, &mut new);
         if sound(&new) {
             return new;
         }
@@ -98,8 +79,39 @@ pub fn changed(random: &mut Random, table: &Table) -> Table {
     table.clone()
 }
 
+/// One thing changed, in a table that has a branch; it may be unsound then.
+fn change_one(random: &mut Random, table: &mut Table) {
+    let state = random.below(table.states.len());
+    let b = random.below(table.branches.len());
+    let f = random.below(table.branches[b].fields.len());
+    match random.below(10) {
+        0..=2 => {
+            if let Some(field) = table.branches[b].fields.get_mut(f) {
+                match random.below(4) {
+                    0 => field.low -= 1,
+                    1 => field.low += 1,
+                    2 => field.high -= 1,
+                    _ => field.high += 1,
+                }
+            }
+        }
+        3 => table.branches[b].fields = fields(random, MOST_FIELDS),
+        4 => table.branches[b].label = label(random, &[]),
+        5 => table.branches[b].target = random.below(table.states.len()),
+        6 => table.states[state] = *random.pick(&[Sort::End, Sort::Sends, Sort::Receives]),
+        7 => table.branches[b].owner = state,
+        8 => {
+            table.branches.remove(b);
+        }
+        _ => {
+            let branch = branch_for(random, table, state);
+            table.branches.insert(b, branch);
+        }
+    }
+}
+
 /// A device's table and a protocol's, related: the device comes from the protocol by fitting changes and, half of the time, one or
-/// two of any sort. Now and then the two have nothing to do with one another.
+/// two of any sort; one in three has other shares. Now and then the two have nothing to do with one another.
 pub fn table_pair(random: &mut Random, most_states: usize, most_branches: usize) -> (Table, Table) {
     let protocol = sound_table(random, most_states, most_branches);
     if random.one_in(12) {
@@ -113,6 +125,9 @@ pub fn table_pair(random: &mut Random, most_states: usize, most_branches: usize)
         for _ in 0..1 + random.below(2) {
             device = changed(random, &device);
         }
+    }
+    if random.one_in(3) {
+        other_shares(random, &mut device);
     }
     (device, protocol)
 }
@@ -135,9 +150,10 @@ pub fn named_pair(random: &mut Random) -> (Vec<u8>, Vec<u8>) {
     related_texts(random, &protocol)
 }
 
-/// A device's text that is the protocol's with a few tokens changed, or a type replaced by a name; and the protocol's.
+/// A device's text that is the protocol's, at times without its shares, with a few tokens changed, or a type replaced by a name;
+/// and the protocol's.
 fn related_texts(random: &mut Random, protocol: &[Vec<u8>]) -> (Vec<u8>, Vec<u8>) {
-    let mut device = protocol.to_vec();
+    let mut device = if random.one_in(3) { without_shares(protocol) } else { protocol.to_vec() };
     let changes = random.below(4);
     let mut made = 0;
     for _ in 0..60 {
@@ -195,7 +211,7 @@ pub fn cycle_pair(random: &mut Random) -> (Table, Table) {
     let lengths = [1 + random.below(MOST_STATES), MOST_STATES - random.below(5)];
     let (speaks, hears) = (*random.pick(&lengths), *random.pick(&lengths));
     let sort = *random.pick(&[Sort::Sends, Sort::Receives]);
-    let step = Branch { owner: 0, label: label(random, &[]), fields: fields(random, MOST_FIELDS), target: 0 };
+    let step = Branch { owner: 0, label: label(random, &[]), fields: fields(random, MOST_FIELDS), share: None, target: 0 };
     let kind = *random.pick(&[Kind::Int, Kind::Text]);
     let tested = Field { kind, low: 5, high: 9 };
     let odd = Branch { label: label(random, &[step.label]), fields: vec![field(random), tested], ..step.clone() };
@@ -225,5 +241,8 @@ fn cycle(random: &mut Random, length: usize, sort: Sort, step: &Branch, more: im
         table.branches.extend(all.map(|branch| Branch { owner, target, ..branch }));
     }
     random.shuffle(&mut table.branches);
+    if random.one_in(4) {
+        some_shares(random, &mut table);
+    }
     table
 }

@@ -1,10 +1,10 @@
 //! Tables: sound, damaged in one entry, with anything where nothing counts, and any.
 
-use super::{fields, label, Random};
+use super::{fields, label, some_shares, Random};
 use crate::second::table::{Branch, Label, Raw, Sort, Table, LABEL_BYTES, MOST_BRANCHES, MOST_FIELDS, MOST_STATES};
 
 /// A sound table of at most so many states (1 to 32) and branches (0 to 128). Owners and targets are any, as no text has them.
-/// State 0 is seldom an end.
+/// State 0 is seldom an end. Half of them have choices with shares.
 pub fn sound_table(random: &mut Random, most_states: usize, most_branches: usize) -> Table {
     table_with_ends(random, most_states, most_branches, 5)
 }
@@ -45,22 +45,27 @@ fn table_with_ends(random: &mut Random, most_states: usize, most_branches: usize
         let new = branch_for(random, &table, owner);
         table.branches.push(new);
     }
+    if random.one_in(2) {
+        some_shares(random, &mut table);
+    }
     table
 }
 
-/// A branch for a state of the table, with a label that is new there.
+/// A branch for a state of the table, with a label that is new there and no share.
 pub(super) fn branch_for(random: &mut Random, table: &Table, owner: usize) -> Branch {
     let labels: Vec<Label> = table.branches_of(owner).into_iter().map(|b| table.branches[b].label).collect();
     Branch {
         owner,
         label: label(random, &labels),
         fields: fields(random, MOST_FIELDS),
+        share: None,
         target: random.below(table.states.len()),
     }
 }
 
-/// The columns of a raw table, by number: states, branches, sort, owner, target, fields, label (both words), kind, low, high.
-pub const COLUMNS: usize = 10;
+/// The columns of a raw table, by number: states, branches, sort, owner, target, fields, label (both words), kind, low, high,
+/// share.
+pub const COLUMNS: usize = 11;
 
 /// The raw table with one entry of a column changed, to a number that is telling there, mostly of an entry that counts. What
 /// comes out is mostly, not always, unsound.
@@ -91,9 +96,27 @@ pub fn damaged_table(random: &mut Random, raw: &Raw, column: usize) -> Raw {
         }
         7 => raw.kind[place] = near(random, raw.kind[place]),
         8 => raw.low[place] = telling_number(random, raw.low[place], raw.high[place]),
-        _ => raw.high[place] = telling_number(random, raw.low[place], raw.high[place]),
+        9 => raw.high[place] = telling_number(random, raw.low[place], raw.high[place]),
+        _ => damage_share(random, &mut raw, branch),
     }
     raw
+}
+
+/// A branch's share changed: by itself, or against another's of its choice, so that they add to the same in 32 bits.
+fn damage_share(random: &mut Random, raw: &mut Raw, branch: usize) {
+    let share = raw.share[branch];
+    let changed = match random.below(4) {
+        0 => share.wrapping_add(*random.pick(&[1, u32::MAX])),
+        1 => *random.pick(&[0, 1, 500, 999, 1000, 1001, 65536, 66536]),
+        _ => random.wide(share),
+    };
+    raw.share[branch] = changed;
+    let beside = |&other: &usize| other != branch && raw.owner[other] == raw.owner[branch];
+    let others: Vec<usize> = (0..counted(raw).1).filter(beside).collect();
+    if !others.is_empty() && random.one_in(2) {
+        let other = *random.pick(&others);
+        raw.share[other] = raw.share[other].wrapping_add(share.wrapping_sub(changed));
+    }
 }
 
 /// How many states and branches count, of those that the columns hold.
@@ -146,6 +169,7 @@ pub fn with_noise(random: &mut Random, raw: &Raw) -> Raw {
             raw.owner[b] = if again { raw.owner[like] } else { junk(random) };
             raw.target[b] = junk(random);
             raw.fields[b] = junk(random);
+            raw.share[b] = junk(random);
             raw.label_high[b] = if again { raw.label_high[like] } else { junk(random) };
             raw.label_low[b] = if again { raw.label_low[like] } else { junk(random) };
         }

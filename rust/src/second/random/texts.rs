@@ -1,7 +1,7 @@
 //! Texts: legal, nearly legal, and any.
 
 use super::names::{put_name_after_recs, rec_of, NAMES};
-use super::{fields, label, Random};
+use super::{damaged_shares, fields, label, shares, Random};
 use crate::second::table::{Kind, Label, MOST_BRANCHES, MOST_FIELDS, MOST_STATES};
 use crate::second::text::{LONGEST_PROTOCOL, MOST_OPEN};
 
@@ -32,7 +32,8 @@ impl Limits {
     }
 }
 
-/// The tokens of a text that the grammar and questions 2 to 7 allow, and 8 as well when the limits are the document's or less.
+/// The tokens of a text that the grammar and questions 2 to 7, 19 and 20 allow, and 8 as well when the limits are the document's or
+/// less. One choice in three has shares.
 pub fn tokens(random: &mut Random, limits: Limits) -> Vec<Vec<u8>> {
     let mut growth = Growth {
         random,
@@ -122,9 +123,9 @@ impl Growth<'_> {
         self.bound.pop();
     }
 
-    fn choice(&mut self) {
+    /// Of each branch of a choice: is its type promised a state, or is it to be a name?
+    fn promises(&mut self) -> Vec<bool> {
         let wished = if self.random.one_in(12) { 1 + self.random.below(MOST_BRANCHES + 1) } else { 1 + self.random.below(4) };
-        // Of each branch: is its type promised a state, or is it to be a name?
         let mut promised = Vec::new();
         while promised.len() < wished && self.branches_left > 0 {
             let promise = self.states_left > 0 && (self.bound.is_empty() || !self.random.one_in(3));
@@ -137,10 +138,16 @@ impl Growth<'_> {
             self.branches_left -= 1;
             promised.push(promise);
         }
+        promised
+    }
+
+    fn choice(&mut self) {
+        let promised = self.promises();
         let (sign, mark): (&[u8], &[u8]) = if self.random.one_in(2) { (b"+", b"!") } else { (b"&", b"?") };
         self.put(sign);
         self.put(b"{");
         self.choices += 1;
+        let shares = if self.random.one_in(3) { shares(self.random, promised.len()) } else { Vec::new() };
         let mut labels = Vec::new();
         for (i, promise) in promised.into_iter().enumerate() {
             if i > 0 {
@@ -151,6 +158,10 @@ impl Growth<'_> {
             self.put(mark);
             self.put(&name_of(&label));
             self.fields();
+            if let Some(share) = shares.get(i) {
+                self.put(b"@");
+                self.put(share.to_string().as_bytes());
+            }
             self.put(b".");
             if promise {
                 self.grow(false);
@@ -223,7 +234,7 @@ pub fn legal_text(random: &mut Random) -> Vec<u8> {
 }
 
 /// Tokens to put in a text's way: every sign and word, names, numbers at the ends of the kinds, and malformed ones.
-pub(super) const STRANGE_TOKENS: [&[u8]; 62] = [
+pub(super) const STRANGE_TOKENS: [&[u8]; 67] = [
     b"+",
     b"&",
     b"{",
@@ -235,6 +246,7 @@ pub(super) const STRANGE_TOKENS: [&[u8]; 62] = [
     b",",
     b"!",
     b"?",
+    b"@",
     b".",
     b"..",
     b"...",
@@ -265,6 +277,9 @@ pub(super) const STRANGE_TOKENS: [&[u8]; 62] = [
     b"64",
     b"65",
     b"100",
+    b"999",
+    b"1000",
+    b"1001",
     b"2147483647",
     b"2147483648",
     b"-2147483648",
@@ -273,6 +288,7 @@ pub(super) const STRANGE_TOKENS: [&[u8]; 62] = [
     b"18446744073709551616",
     b"00",
     b"01",
+    b"05",
     b"-0",
     b"-",
     b"--1",
@@ -289,19 +305,20 @@ pub(super) const STRANGE_TOKENS: [&[u8]; 62] = [
 ];
 
 /// Bytes that mean something in a text, or nearly.
-const TELLING_BYTES: &[u8] = b"+&{}()[],!?..--0019AZaz \n\t#endrcitxflgXYB_\0\x7F\x80\xFF";
+const TELLING_BYTES: &[u8] = b"+&{}()[],!?@..--0019AZaz \n\t#endrcitxflgXYB_\0\x7F\x80\xFF";
 
 /// A text that is legal but for one change (which may leave it legal): a byte changed, dropped, inserted or doubled; a token
 /// replaced by any or by one of its class, dropped, inserted, doubled, or exchanged with another; a type replaced by a name after
-/// `rec`s; cut off; grown beyond the limits; or filled up with blanks to about 8,192 bytes.
+/// `rec`s; a share changed; cut off; grown beyond the limits; or filled up with blanks to about 8,192 bytes.
 pub fn nearly_legal_text(random: &mut Random) -> Vec<u8> {
     let limits = Limits::any(random);
     let mut tokens = tokens(random, limits);
     let place = random.below(tokens.len());
-    match random.below(16) {
+    match random.below(19) {
         0 | 1 => tokens[place] = random.pick(&STRANGE_TOKENS).to_vec(),
         2 | 13 => put_name_after_recs(random, &mut tokens),
         9..=12 => replace_by_its_class(random, &mut tokens),
+        14..=16 => damaged_shares(random, &mut tokens),
         3 => {
             tokens.remove(place);
         }
