@@ -1,30 +1,33 @@
 // The batch over a lent state, and whether it goes as a line wants it. The file `batches` says what the numbers are.
 ghost use mathlib.Core.Path.{_≡_};
-ghost use Rattle.monitor.specs.Batch.{batching, batched};
+ghost use Rattle.monitor.specs.Batch.{batched};
+ghost use Rattle.monitor.specs.Counts.{counted-batch};
 use super::part;
 use super::step;
 use super::step::Outcome;
+use monitor::Counts;
 use monitor::State;
 use monitor::batch::Batched;
 use monitor::batch::Last;
 use monitor::batch::Passed;
 use table::Table;
 
-// The call: the state is lent to it.
+// The call: state and counts are lent to it.
 fn batched(
     t: &Table,
     s: State,
+    c: &mut Counts,
     device: &[u8],
     host: &[u8],
     to_device: &mut [u8],
     to_host: &mut [u8],
 ) -> Batched
-    ensures { λ r. ⌜ batched r (now («to_device» .exit)) (now («to_host» .exit))
-        ≡ batching (now (t .entry)) s (now (device .entry)) (now (host .entry))
+    ensures { λ r. ⌜ (batched r (now («to_device» .exit)) (now («to_host» .exit)), now (c .exit))
+        ≡ counted-batch (now (t .entry)) s (now (c .entry)) (now (device .entry)) (now (host .entry))
         (now («to_device» .entry)) (now («to_host» .entry)) ⌝ }
 {
     let mut state = s;
-    let passed = monitor::batch::advance(t, &mut state, device, host, to_device, to_host);
+    let passed = monitor::batch::advance(t, &mut state, c, device, host, to_device, to_host);
     Batched { state, passed }
 }
 
@@ -32,6 +35,7 @@ fn batched(
 pub fn batch(
     t: &Table,
     s: State,
+    c: &mut Counts,
     room_device: u64,
     room_host: u64,
     device: &[u8],
@@ -45,6 +49,7 @@ pub fn batch(
     batch_into(
         t,
         s,
+        c,
         device,
         host,
         &mut to_device[0..n],
@@ -56,13 +61,14 @@ pub fn batch(
 fn batch_into(
     t: &Table,
     s: State,
+    c: &mut Counts,
     device: &[u8],
     host: &[u8],
     to_device: &mut [u8],
     to_host: &mut [u8],
     wanted: &[u8],
 ) -> Outcome {
-    let r = batched(t, s, device, host, to_device, to_host);
+    let r = batched(t, s, c, device, host, to_device, to_host);
     let state = r.state;
     let right = is_wanted(r, to_device, to_host, wanted);
     Outcome { right, state }

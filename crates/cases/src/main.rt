@@ -1,37 +1,44 @@
-// Puts the steps of the file `monitor` through `monitor::advance`, the step over a lent state, and the batches of the file `batches`
-// through `monitor::batch::advance`, the batch over one. No export can reach either: an enum cannot cross to C. A step or a batch
-// that goes wrong is printed by its letter and its line's number; the last line counts them.
+// Puts the steps of the file `monitor` through `monitor::advance`, the step over a lent state, the batches of the file `batches`
+// through `monitor::batch::advance`, the batch over one, and those of the file `counts` through both, with what they count. No export
+// can reach either: an enum cannot cross to C. A step, a batch or counts that go wrong are printed by the line's letter and number; the
+// last line counts them.
 //   j edits                    the table of the lines after it: the empty table with these edits, each of them column, index and value
 //   g                          the state of a fresh conversation
+//   f z                        the same, with the setting z
+//   i position standing z n.. k..        any state
+//   e = n.. k..                the counts of the conversation
 //   s position standing side room message = verdict position standing output     a step from the state that the line gives
 //   u side room message = verdict position standing output                       a step from the state that the line before it left
 //   b position standing room room length device.. host.. = counts answer position standing output output      a batch from that state
 //   c room room length device.. host.. = counts answer position standing output output                        or from the one left
-// What j and g want, the lines w, which ask for the due part, and three lines b, whose standing is no code, are left to the tests
+// What j, g, f and i want, the lines w, which ask for the due part, and three lines b, whose standing is no code, are left to the tests
 // in Rust: 33 of the 639 cases of `monitor` and 11 of the 109 of `batches`.
 ghost use Prim.Native.Nat.{_≤_};
 use libc::STDOUT_FILENO;
 use line::Line;
+use monitor::Counts;
 use monitor::State;
 use std::num::wrapping_add_u64;
 use step::Outcome;
 use table::Table;
 
 mod batch;
+mod counts;
 mod line;
 mod step;
 
-// How many lines, steps and batches there were, and how many steps and batches went wrong.
+// How many lines, steps, batches and counts there were, and how many of the last three went wrong.
 struct Tally {
     lines: u64,
     steps: u64,
     batches: u64,
+    counts: u64,
     wrong: u64,
 }
 
-// Where a column begins: states, branches, sort, owner, target, fields, label, kind, low, high.
+// Where a column begins: states, branches, sort, owner, target, fields, label, kind, low, high, share.
 fn column(n: u64) -> usize
-    ensures { λ r. ⌜ r ≤ 1698 ⌝ }
+    ensures { λ r. ⌜ r ≤ 2210 ⌝ }
 {
     match n {
         0 => table::STATES,
@@ -43,7 +50,8 @@ fn column(n: u64) -> usize
         6 => table::LABEL_LOW,
         7 => table::KIND,
         8 => table::LOW,
-        _ => table::HIGH,
+        9 => table::HIGH,
+        _ => table::SHARE,
     }
 }
 
@@ -59,7 +67,10 @@ fn build(numbers: &[u64; 512], given: usize) -> Table {
         let value = numbers[at + 2];
         let n = numbers[at];
         at += 3;
-        t[column(n) + index] = (value % 4294967296) as u32;
+        let place = column(n) + index;
+        if place < 2340 {
+            t[place] = (value % 4294967296) as u32;
+        }
         if n == 6 {
             t[table::LABEL_HIGH + index] = (value / 4294967296 % 4294967296) as u32;
         }
@@ -90,7 +101,14 @@ fn part<'a>(bytes: &'a [u8], from: usize, to: usize) -> &'a [u8] {
 }
 
 // The step of a line whose message begins at `from`, its side and the room before it.
-fn step_of(l: Line, from: usize, t: &Table, s: State, numbers: &[u64; 512]) -> Outcome
+fn step_of(
+    l: Line,
+    from: usize,
+    t: &Table,
+    s: State,
+    c: &mut Counts,
+    numbers: &[u64; 512],
+) -> Outcome
     requires { ⌜ (2 ≤ from) × (from ≤ 4) ⌝ }
 {
     let bytes = bytes_of(numbers);
@@ -98,11 +116,18 @@ fn step_of(l: Line, from: usize, t: &Table, s: State, numbers: &[u64; 512]) -> O
     let wanted = part(&bytes, l.given, l.total);
     let side = numbers[from - 2];
     let room = numbers[from - 1];
-    step::step(t, s, side, room, message, wanted)
+    step::step(t, s, c, side, room, message, wanted)
 }
 
 // The batch of a line whose rooms begin at `from`, the length of the device's bytes and the bytes after them.
-fn batch_of(l: Line, from: usize, t: &Table, s: State, numbers: &[u64; 512]) -> Outcome
+fn batch_of(
+    l: Line,
+    from: usize,
+    t: &Table,
+    s: State,
+    c: &mut Counts,
+    numbers: &[u64; 512],
+) -> Outcome
     requires { ⌜ from ≤ 2 ⌝ }
 {
     let bytes = bytes_of(numbers);
@@ -112,21 +137,46 @@ fn batch_of(l: Line, from: usize, t: &Table, s: State, numbers: &[u64; 512]) -> 
     let wanted = part(&bytes, l.given, l.total);
     let to_device = numbers[from];
     let to_host = numbers[from + 1];
-    batch::batch(t, s, to_device, to_host, device, host, wanted)
+    batch::batch(t, s, c, to_device, to_host, device, host, wanted)
 }
 
-// What comes of a line after one that ended in the state. A line with no step and no batch is right.
-fn outcome(l: Line, t: &Table, state: State, numbers: &[u64; 512]) -> Outcome {
+// A conversation begins.
+fn start(t: &Table, c: &mut Counts, setting: u64) -> Outcome {
+    let begun = monitor::fresh(t, (setting % 4294967296) as u32);
+    let state = begun.state;
+    let counts = begun.counts;
+    *c = counts;
+    Outcome { right: true, state }
+}
+
+// What comes of a line that begins at a state of its own.
+fn anew(l: Line, t: &Table, numbers: &[u64; 512]) -> Outcome {
+    let mut c = counts::none();
+    let s = step::state_of(numbers[0], numbers[1]);
+    if l.command == b's' {
+        return step_of(l, 4, t, s, &mut c, numbers);
+    }
+    batch_of(l, 2, t, s, &mut c, numbers)
+}
+
+// What comes of a line after one that ended in the state and the counts. A line with no step, batch or counts is right.
+fn outcome(l: Line, t: &Table, state: State, c: &mut Counts, numbers: &[u64; 512]) -> Outcome {
     let command = l.command;
     match command {
-        b'g' => {
-            let state = monitor::fresh();
+        b'g' => start(t, c, 200),
+        b'f' => start(t, c, numbers[0]),
+        b'i' => {
+            *c = counts::of(t, numbers);
+            let state = step::state_of(numbers[0], numbers[1]);
             Outcome { right: true, state }
         }
-        b's' => step_of(l, 4, t, step::state_of(numbers[0], numbers[1]), numbers),
-        b'u' => step_of(l, 2, t, state, numbers),
-        b'b' => batch_of(l, 2, t, step::state_of(numbers[0], numbers[1]), numbers),
-        b'c' => batch_of(l, 0, t, state, numbers),
+        b'e' => {
+            let right = counts::are(t, c, numbers, l.given, l.total);
+            Outcome { right, state }
+        }
+        b's' | b'b' => anew(l, t, numbers),
+        b'u' => step_of(l, 2, t, state, c, numbers),
+        b'c' => batch_of(l, 0, t, state, c, numbers),
         _ => Outcome { right: true, state },
     }
 }
@@ -149,6 +199,9 @@ fn counted(tally: Tally, command: u8, right: bool) -> Tally {
     if command == b'b' || command == b'c' {
         r.batches = wrapping_add_u64(r.batches, 1);
     }
+    if command == b'e' {
+        r.counts = wrapping_add_u64(r.counts, 1);
+    }
     if !right {
         r.wrong = wrapping_add_u64(r.wrong, 1);
         print_wrong(command, r.lines);
@@ -169,12 +222,14 @@ fn print_wrong(command: u8, line: u64) {
 fn run(s: &[u8]) -> Tally {
     let mut numbers = [0u64; 512];
     let mut t = table::empty();
-    let mut state = monitor::fresh();
+    let mut state = step::state_of(0, 0);
+    let mut c = counts::none();
     let mut l = line::begin();
     let mut tally = Tally {
         lines: 0,
         steps: 0,
         batches: 0,
+        counts: 0,
         wrong: 0,
     };
     let mut at: usize = 0;
@@ -190,7 +245,7 @@ fn run(s: &[u8]) -> Tally {
         if l.command == b'j' {
             t = build(&numbers, l.given);
         }
-        let r = outcome(l, &t, state, &numbers);
+        let r = outcome(l, &t, state, &mut c, &numbers);
         state = r.state;
         tally = counted(tally, l.command, r.right);
         l = line::begin();
@@ -205,14 +260,23 @@ fn run_file(name: &[u8]) -> Tally {
     run(&buf[..n])
 }
 
-fn main() {
-    let a = run_file(b"monitor");
-    let b = run_file(b"batches");
-    io::write_all(STDOUT_FILENO, b"monitor: ");
-    io::print_decimal(STDOUT_FILENO, a.steps);
+// What a file came to.
+fn report(name: &[u8]) {
+    let tally = run_file(name);
+    io::write_all(STDOUT_FILENO, name);
+    io::write_all(STDOUT_FILENO, b": ");
+    io::print_decimal(STDOUT_FILENO, tally.steps);
     io::write_all(STDOUT_FILENO, b" steps, ");
-    io::print_decimal(STDOUT_FILENO, b.batches);
+    io::print_decimal(STDOUT_FILENO, tally.batches);
     io::write_all(STDOUT_FILENO, b" batches, ");
-    io::print_decimal(STDOUT_FILENO, wrapping_add_u64(a.wrong, b.wrong));
+    io::print_decimal(STDOUT_FILENO, tally.counts);
+    io::write_all(STDOUT_FILENO, b" counts, ");
+    io::print_decimal(STDOUT_FILENO, tally.wrong);
     io::write_all(STDOUT_FILENO, b" wrong\n");
+}
+
+fn main() {
+    report(b"monitor");
+    report(b"batches");
+    report(b"counts");
 }

@@ -1,6 +1,8 @@
 // The step over a lent state, and whether it goes as a line wants it. The file `monitor` says what the numbers are.
 ghost use mathlib.Core.Path.{_≡_};
-ghost use Rattle.monitor.specs.Step.{stepping, outcome};
+ghost use Rattle.monitor.specs.Step.{outcome};
+ghost use Rattle.monitor.specs.Counts.{counted-step};
+use monitor::Counts;
 use monitor::Reason;
 use monitor::Standing;
 use monitor::State;
@@ -15,31 +17,48 @@ pub struct Outcome {
     pub state: State,
 }
 
-// The call: the state is lent to it.
-fn advanced(t: &Table, s: State, side: Party, message: &[u8], out: &mut [u8]) -> Stepped
-    ensures { λ r. ⌜ outcome r (now (out .exit)) ≡ stepping (now (t .entry)) s side (now (message .entry)) (now (out .entry)) ⌝ }
+// The call: state and counts are lent to it.
+fn advanced(
+    t: &Table,
+    s: State,
+    c: &mut Counts,
+    side: Party,
+    message: &[u8],
+    out: &mut [u8],
+) -> Stepped
+    ensures { λ r. ⌜ (outcome r (now (out .exit)), now (c .exit))
+        ≡ counted-step (now (t .entry)) s (now (c .entry)) side (now (message .entry)) (now (out .entry)) ⌝ }
 {
     let mut state = s;
-    let verdict = monitor::advance(t, &mut state, side, message, out);
+    let verdict = monitor::advance(t, &mut state, c, side, message, out);
     Stepped { state, verdict }
 }
 
 // A step into an output of `room` bytes 0xEE.
-pub fn step(t: &Table, s: State, side: u64, room: u64, message: &[u8], wanted: &[u8]) -> Outcome {
+pub fn step(
+    t: &Table,
+    s: State,
+    c: &mut Counts,
+    side: u64,
+    room: u64,
+    message: &[u8],
+    wanted: &[u8],
+) -> Outcome {
     let mut out = [0xEEu8; 512];
     let n = (room % 512) as usize;
-    step_into(t, s, party_of(side), message, &mut out[0..n], wanted)
+    step_into(t, s, c, party_of(side), message, &mut out[0..n], wanted)
 }
 
 fn step_into(
     t: &Table,
     s: State,
+    c: &mut Counts,
     side: Party,
     message: &[u8],
     out: &mut [u8],
     wanted: &[u8],
 ) -> Outcome {
-    let r = advanced(t, s, side, message, out);
+    let r = advanced(t, s, c, side, message, out);
     let state = r.state;
     let right = is_wanted(r, out, wanted);
     Outcome { right, state }
