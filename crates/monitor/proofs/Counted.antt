@@ -89,6 +89,7 @@ unfolding conversation starting
 steps-counted t z q answers c k =
     let tally = tallied-then t z q in
     let x = steps t fresh (starting t z .counts) (λ events. tally events .sound) answers c k in (
+      x .0,
       replies-kept t answers (x .0),
       subst (Tallied t z (conversation t (sent-in t answers))) (x .1) (tally (conversation t (sent-in t answers))),
     )

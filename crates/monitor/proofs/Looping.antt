@@ -29,8 +29,8 @@ use Rattle.monitor.specs.Batch.{one-turn, go-on, turns, batch-questions,
 use Rattle.monitor.specs.Conversation.{is-forwarded}
 use Rattle.monitor.specs.Counts.{Counts, counts-sound, raised, raised-by, raised-at, counted, first-left, awaited-message, turn-message, count-on}
 use Rattle.monitor.specs.Counts.{counted-turns, counted-batch}
-use Rattle.monitor.specs.Leaves.{Rising}
-use Rattle.monitor.specs.Turns.{Heard, LaneIn, Within, is-last-forwarded, Led, no-turn, a-turn, answer-counted, counted-one-turn, moved-to, PassedOn}
+use Rattle.monitor.specs.Leaves.{Rising, moved-to}
+use Rattle.monitor.specs.Turns.{Heard, LaneIn, Within, is-last-forwarded, Led, no-turn, a-turn, answer-counted, counted-one-turn, PassedOn}
 use Rattle.monitor.proofs.Asking.{nine-by, zero-or, entered, Way, refuses, forwards, blames, way}
 use Rattle.monitor.proofs.Waiting.{first-cut}
 use Rattle.monitor.proofs.Batching.{devices-turn, hosts-turn, takes-none, takes-one, now-due, used-in, written-in, left, turn-is}

@@ -19,8 +19,8 @@ use Rattle.monitor.specs.Step.{forwarded, forwarding, judging, step-ques
 use Rattle.monitor.specs.Due.{of-side, awaited, first-length}
 use Rattle.monitor.specs.Batch.{Lane, used-by, written-by, taken, taking}
 use Rattle.monitor.specs.Counts.{first-left}
-use Rattle.monitor.specs.Leaves.{Leading}
-use Rattle.monitor.specs.Turns.{LaneIn, moved-to, PassedOn}
+use Rattle.monitor.specs.Leaves.{moved-to, Leading}
+use Rattle.monitor.specs.Turns.{LaneIn, PassedOn}
 use Rattle.monitor.proofs.Asking.{judged-as}
 use Rattle.monitor.proofs.Waiting.{first-within, first-formed}
 use Rattle.monitor.proofs.Batching.{takes-one, due-yes}

@@ -24,10 +24,11 @@ use Rattle.message.specs.Judge.{selected}
 use Rattle.message.specs.Make.{branch}
 use Rattle.message.proofs.Selected.{carries-owner, selected-exactly}
 use Rattle.message.proofs.Columns.{branch-at-is}
+use Rattle.monitor.specs.declared.State.{State}
 use Rattle.monitor.specs.Step.{fresh}
 use Rattle.monitor.specs.Counts.{Counts, setting-of, n-at, k-at, legal-setting, counted-most, adds-up, counts-sound, fresh-counts}
 use Rattle.monitor.specs.Counts.{start-questions, starting, raised, raised-by, raised-at}
-use Rattle.monitor.specs.Leaves.{Rising, sums-to}
+use Rattle.monitor.specs.Leaves.{Rising, Follows, sums-to}
 use Rattle.monitor.proofs.Asking.{zero-or}
 
 -- ---- question 9 by places
@@ -371,12 +372,15 @@ raised-rising t c s h b l i o =
         omega (arith, ap (λ x. k-at x b) q, k-is b, was, n-is i few, n-here))
         (decided (ltb (33 + b) (length c)))
 
--- what a branch's raise asks
-pub can-rise : (t : Words) (c : Counts) → sound-of t ≡ true → Rising t c → (b : ℕ) → b < branches-of t → (i : ℕ) → owner-at t b ≡ i
-    → (i < 32) × (b < 128) × (n-at c i < 10000 → k-at c b ≤ 10000)
-can-rise t c s h b l i o =
-    let f = sound-facts t s in
-    (omega (arith, o, f .owners b l, f .few), omega (arith, f .room), λ m. omega (arith, m, subst (λ j. k-at c b ≤ n-at c j) o (h b l)))
+-- what the raise of a branch that can be taken asks
+pub can-rise : (t : Words) (b : ℕ) (s : State) (c : Counts) → Follows t b s c
+    → (s .position < 32) × (b < 128) × (n-at c (s .position) < 10000 → k-at c b ≤ 10000)
+can-rise t b s c h =
+    let f = sound-facts t (h .sound) in (
+      omega (arith, h .owned, f .owners b (h .there), f .few),
+      omega (arith, h .there, f .room),
+      λ m. omega (arith, m, subst (λ j. k-at c b ≤ n-at c j) (h .owned) (h .rising b (h .there))),
+    )
 
 -- ---- by a message
 
@@ -386,6 +390,11 @@ chosen-branch t i m b e =
     let x = selected-exactly (view t) i m .0 b e in
     let l : b < branches-of t = rw (branches-of-is t) at (x .there) in
     (l, ap (λ (b : Branch). b .owner) (sym (branch-at-is t b none l)) ∙ carries-owner i m (branch (view t) b) (x .carried))
+
+pub chosen-follows : (t : Words) (s : State) (c : Counts) → sound-of t ≡ true → Rising t c → (m : Message) (b : ℕ)
+    → selected (view t) (s .position) m ≡ some b → Follows t b s c
+chosen-follows t s c sound rising m b e =
+    let x = chosen-branch t (s .position) m b e in record { sound = sound; there = x .0; owned = x .1; rising = rising }
 
 module _ (t : Words) (position : ℕ) (message : List ℕ) (c : Counts) where
   -- as the program has it

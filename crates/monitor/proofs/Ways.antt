@@ -21,7 +21,7 @@ use Rattle.monitor.specs.Counts.{Counts, counts-sound, raised, raised-by
 use Rattle.monitor.specs.Leaves.{judgement, judged-branch, Rising, Settled, ByBranch}
 use Rattle.monitor.proofs.Asking.{nine-by, asked-first, refused-step, judged-as}
 use Rattle.monitor.proofs.Waiting.{refused-turn}
-use Rattle.monitor.proofs.Raising.{chosen-branch, raised-at-is}
+use Rattle.monitor.proofs.Raising.{chosen-follows, raised-at-is}
 
 pub together : {A B : Type 0} {a b : A} {x y : B} → a ≡ b → x ≡ y → _≡_ {A = A × B} (a, x) (b, y)
 together e f = ap₂ (λ a x. (a, x)) e f
@@ -47,9 +47,7 @@ settles t j s c n room sound rising eight holds m e =
     record {
       eight = eight;
       holds = holds;
-      takes = λ b h.
-          let x = chosen-branch t (s .position) m b (sym e ∙ h) in
-          record { sound = sound; there = x .0; owned = x .1; rising = rising; eight = eight; holds = holds };
+      follows = λ b h. chosen-follows t s c sound rising m b (sym e ∙ h);
     }
 
 module _ (t : Words) (s : State) (c : Counts) (side : Party) (message out : List ℕ) where

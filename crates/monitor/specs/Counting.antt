@@ -13,7 +13,7 @@ use Rattle.message.specs.Message.{read}
 use Rattle.message.specs.Judge.{selected}
 use Rattle.monitor.specs.declared.State.{State}
 use Rattle.monitor.specs.Step.{fresh, outcome}
-use Rattle.monitor.specs.Conversation.{Sent, Event, is-forwarded, conversation, Reply}
+use Rattle.monitor.specs.Conversation.{Sent, Event, is-forwarded, conversation, Reply, Kept}
 use Rattle.monitor.specs.Batch.{Batch}
 use Rattle.monitor.specs.Batches.{Left, batch-of, batch-calls, Batches}
 use Rattle.monitor.specs.Counts.{Counts, setting-of, n-at, k-at, legal-setting, counted-most, counts-sound, fresh-counts, start-questions}
@@ -77,13 +77,15 @@ pub data KeptCounts (t : Words) : State → Counts → List Reply → Counts →
       → (outcome (a .given) (a .output), d) ≡ counted-step t s c (a .sent .side) (a .sent .bytes) (a .sent .buffer)
       → KeptCounts t (a .given .state) d r e → KeptCounts t s c (a ∷ r) e
 
--- from a conversation that was started, such answers are what the conversation of their messages does, and the counts tally
+-- from a conversation that was started, 9 never refuses the counts: such answers are steps as without counts (`Kept`), so that they are what
+-- the conversation of their messages does; and the counts tally
 abbrev pub StepsCounted : Type 0
 StepsCounted =
     (t : Words) (z : ℕ) → first-no (start-questions t z) ≡ 0 → (answers : List Reply) (c : Counts)
     → KeptCounts t (starting t z .state) (starting t z .counts) answers c
     → let events = conversation t (map (λ (a : Reply). a .sent) answers) in
-    (map (λ (a : Reply). outcome (a .given) (a .output)) answers ≡ map (λ (e : Event). e .done) events) × Tallied t z events c
+    Kept t fresh answers × (map (λ (a : Reply). outcome (a .given) (a .output)) answers ≡ map (λ (e : Event). e .done) events)
+    × Tallied t z events c
 
 -- what a program gets that calls the batch again and again, over one state and its counts
 unfoldable pub counted-calls : Words → State → Counts → List Left → List Batch × Counts

@@ -23,6 +23,7 @@ use Rattle.monitor.specs.Due.{of-side, awaited}
 use Rattle.monitor.specs.Conversation.{is-forwarded}
 use Rattle.monitor.specs.Batch.{Batch, taking, one-turn, last-of, batched}
 use Rattle.monitor.specs.Counts.{Counts, raised-at, counted, first-left, turn-message}
+use Rattle.monitor.specs.Leaves.{moved-to}
 use Rattle.monitor.specs.Batch as B
 
 -- a well-formed message of the side whose turn it is: only 16 is left to ask
@@ -79,10 +80,6 @@ answer-counted t s message (some v) c = counted t s message v c
 abbrev pub counted-one-turn : Words → List ℕ → List ℕ → Batch → Counts → (Option Told × Batch) × Counts
 counted-one-turn t device host b c =
     (one-turn t device host b, answer-counted t (b .state) (turn-message t device host b) (one-turn t device host b .0) c)
-
--- the state after a message that went straight
-abbrev pub moved-to : ℕ → State → State
-moved-to target s = record { position = target; standing = s .standing }
 
 -- what is ahead is the turn of whoever has it at this position; `after` is the output then. Nothing is done where it does not go straight
 pub record PassedOn (t : Words) (position : ℕ) (bytes : List ℕ) (l : B.Lane) (after : List ℕ) (r : Ahead) : Type 0 where

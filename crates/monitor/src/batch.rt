@@ -17,7 +17,7 @@ use super::Counts;
 use super::State;
 use super::Verdict;
 use super::ask;
-use super::counts;
+use super::follow;
 use super::lane;
 use super::lane::Taken;
 use table::Party;
@@ -127,9 +127,8 @@ fn straight_on(
 ) -> Batched
     requires { ⌜ Within (now t) (now device) (now host) (batched from (now «to_device») (now «to_host»))
         × (is-running (from .state .standing) ≡ true) × Rising (now t) (now c) ⌝ }
-    ensures { λ r. ⌜ Led (now (t .entry)) (now (device .entry)) (now (host .entry))
-        (batched from (now («to_device» .entry)) (now («to_host» .entry))) (now (c .entry))
-        (batched r (now («to_device» .exit)) (now («to_host» .exit))) (now (c .exit)) ⌝ }
+    ensures { λ r. ⌜ Led (now (t .entry)) (now (device .entry)) (now (host .entry)) (batched from (now («to_device» .entry)) (now («to_host» .entry)))
+        (now (c .entry)) (batched r (now («to_device» .exit)) (now («to_host» .exit))) (now (c .exit)) ⌝ }
 {
     let mut b = from;
     loop {
@@ -144,33 +143,23 @@ fn straight_on(
             if 128 <= first.branch {
                 return b;
             }
-            counts::raise(c, s.position, first.branch);
-            let next = t[table::TARGET + first.branch] as u8;
-            b = forwarded(s, next, further(p.device, first.length), p.host);
+            let next = follow(t, first.branch, s, c);
+            b = forwarded(next, further(p.device, first.length), p.host);
         } else {
             let first = lane::pass(t, s.position, p.host, host, to_device);
             if 128 <= first.branch {
                 return b;
             }
-            counts::raise(c, s.position, first.branch);
-            let next = t[table::TARGET + first.branch] as u8;
-            b = forwarded(s, next, p.device, further(p.host, first.length));
+            let next = follow(t, first.branch, s, c);
+            b = forwarded(next, p.device, further(p.host, first.length));
         }
     }
 }
 
 // After a message that went straight.
-fn forwarded(s: State, next: u8, device: Lane, host: Lane) -> Batched
-    ensures { λ r. ⌜ r ≡ record {
-      state = record { position = next; standing = s .standing };
-      passed = record { device = device; host = host; last = Answer Forwarded };
-    } ⌝ }
+fn forwarded(state: State, device: Lane, host: Lane) -> Batched
+    ensures { λ r. ⌜ r ≡ record { state = state; passed = record { device = device; host = host; last = Answer Forwarded } } ⌝ }
 {
-    let standing = s.standing;
-    let state = State {
-        position: next,
-        standing,
-    };
     let last = Last::Answer(Verdict::Forwarded);
     Batched {
         state,

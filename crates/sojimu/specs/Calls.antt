@@ -119,7 +119,7 @@ CodesBatch =
     batching-codes t (state-bytes s) c device host to-device to-host
     ≡ (batch-codes (x .0), state-bytes (x .0 .state), x .1, x .0 .host .output, x .0 .device .output)
 
--- a batch that 9 or 10 refuses: counts of 0, the question, and every lent byte as it was, whatever the state's two bytes are
+-- a batch that 9 or 10 refuses: nothing used or written, the question, and every lent byte as it was, whatever the state's two bytes are
 abbrev pub BatchRefused : Type 0
 BatchRefused =
     (t : Words) (bytes : List ℕ) (c : Counts) (device host to-device to-host : List ℕ) (q : ℕ)

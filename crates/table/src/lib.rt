@@ -52,7 +52,7 @@ pub const HIGH: usize = 1698;
 
 pub const SHARE: usize = 2210;
 
-// Question 9: is the table sound? The states that are choices are those that own a branch. Do its shares keep their rules?
+// Question 9: is the table sound, and do its shares keep their rules? The states that are choices are those that own a branch.
 pub fn sound(t: &Table) -> bool
     ensures { λ r. ⌜ r ≡ sound-of (now (t .entry)) ⌝ }
 {

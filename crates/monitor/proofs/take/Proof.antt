@@ -1,44 +1,28 @@
 -- `monitor::take` meets its contract. Assumes nothing.
-use native.Mathlib.Omega.{arith}
+use mathlib.Core.Path.{ap}
+use mathlib.Core.List.{List}
+use Prim.Native.Nat.{ℕ}
 use borrow.Author.Needs.{needs}
-use Rattle.table.proofs.Facts.{sound-facts}
-use Rattle.monitor.proofs.Raising.{can-rise}
+use Rattle.monitor.specs.Step.{told, forwarded, forwarding, outcome}
+use Rattle.monitor.specs.Leaves.{moved-to}
+use Rattle.table.specs.View.{target-at}
 use Rattle.monitor.proofs.take.Statement.{statement}
 use Rattle.monitor.proofs.take.Tie as tie
 
-raise-requires : tie.Need-raise-requires
-raise-requires c κs =
-    let a = c .before .before .before .args in
-    let p = c .before .before .before .pre in
-    can-rise (a .t .now) (a .c .now) (p .sound) (p .rising) _ (p .there) _ (p .owned)
+follow-requires : tie.Need-follow-requires
+follow-requires c κs = c .before .before .before .pre .0
 
-add-forward : tie.Need-add-forward
-add-forward c = let p = c .before .before .before .before .pre in omega (arith, p .there, sound-facts _ (p .sound) .room)
-
-mul-forward : tie.Need-mul-forward
-mul-forward c = let p = c .before .before .before .before .pre in omega (arith, p .there, sound-facts _ (p .sound) .room)
-
-element-copy-out-forward : tie.Need-element-copy-out-forward
-element-copy-out-forward c = let p = c .before .before .before .before .pre in omega (arith, p .there, sound-facts _ (p .sound) .room)
-
-cast-forward : tie.Need-cast-forward
-cast-forward c =
-    let p = c .before .before .before .before .before .pre in
-    let f = sound-facts _ (p .sound) in
-    record { fits = omega (arith, f .targets _ (p .there), f .few) }
+to-front-requires : tie.Need-to-front-requires
+to-front-requires c κs = let p = c .before .before .before .before .before .pre in (p .1, p .2)
 
 returns : tie.Need-returns
-returns c = (c .before .before .forward .ensures, c .before .before .before .before .before .raise .ensures)
+unfolding outcome forwarding told
+returns c =
+    let a = c .before .before .before .before .before .before .before .before .args in
+    let f = c .before .before .before .before .follow .ensures in (
+      rw (f .0) (ap (λ (l : List ℕ). record { verdict = forwarded; state = moved-to (target-at (a .t .now) (a .b)) (a .s); output = l }) (c .before .before .to-front .ensures)),
+      f .1,
+    )
 
 pub take-spec : {M : Type 1} → statement M
-take-spec =
-    tie.close
-    (tie.spec
-    raise-requires
-    add-forward
-    mul-forward
-    element-copy-out-forward
-    cast-forward
-    (λ c κs. search needs)
-    (λ c. search needs)
-    returns)
+take-spec = tie.close (tie.spec follow-requires to-front-requires (λ c. search needs) returns)

@@ -1,20 +1,19 @@
 -- `monitor::batch::straight_on` meets its contract. Assumes nothing.
 use mathlib.Core.Path.{_≡_, refl, _∙_}
 use mathlib.Core.Option.{some}
-use Prim.Native.Nat.{ℕ, _≤_, _<_}
+use Prim.Native.Nat.{ℕ}
 use native.Mathlib.Omega.{arith}
 use lib.ListN.{length}
 use borrow.Author.Needs.{needs}
-use Rattle.table.specs.View.{target-at, view}
-use Rattle.table.proofs.Facts.{sound-facts}
+use Rattle.table.specs.View.{view}
 use Rattle.message.specs.Message.{Message}
 use Rattle.message.specs.Judge.{selected}
 use Rattle.monitor.specs.Step.{told}
 use Rattle.monitor.specs.Batch.{last-of, batched}
-use Rattle.monitor.specs.Counts.{n-at, k-at}
+use Rattle.monitor.specs.Leaves.{Follows}
 use Rattle.monitor.specs.Turns.{Led, no-turn, a-turn}
 use Rattle.monitor.proofs.Batching.{left, sound-parts}
-use Rattle.monitor.proofs.Raising.{chosen-branch, can-rise}
+use Rattle.monitor.proofs.Raising.{chosen-follows}
 use Rattle.monitor.proofs.Looping.{On, turn-less, device-straight, host-straight, device-raised, host-raised, led-on, led-rising}
 use Rattle.monitor.proofs.batch.straight_on.Statement.{statement}
 use Rattle.monitor.proofs.batch.straight_on.Tie as tie
@@ -38,22 +37,13 @@ on : (c : tie.At-loop Inv-loop μ-loop)
     → let a = c .before .before .before .before .before .args in On (a .t .now) (a .device .now) (a .host .now) (batched (c .loop .b) (c .loop .to-device) (c .loop .to-host))
 on c = led-on _ _ _ _ (begun-on c) _ (c .loop .inv .0)
 
--- a branch that a message takes here
-record Taken (c : tie.At-loop Inv-loop μ-loop) (b : ℕ) : Type 0 where
-  rises : (c .loop .b .state .position < 32) × (b < 128) × (n-at (c .loop .c) (c .loop .b .state .position) < 10000 → k-at (c .loop .c) b ≤ 10000)
-  leads : target-at (c .before .before .before .before .before .args .t .now) b < 256
-
-taken : (c : tie.At-loop Inv-loop μ-loop) (b : ℕ) (m : Message) → selected (view (c .before .before .before .before .before .args .t .now)) (c .loop .b .state .position) m ≡ some b → Taken c b
+-- a branch that a message chooses here can be taken
+taken : (c : tie.At-loop Inv-loop μ-loop) (b : ℕ) (m : Message) → selected (view (c .before .before .before .before .before .args .t .now)) (c .loop .b .state .position) m ≡ some b
+    → Follows (c .before .before .before .before .before .args .t .now) b (c .loop .b .state) (c .loop .c)
 unfolding batched
 taken c b m e =
-    let t = c .before .before .before .before .before .args .t .now in
-    let s = sound-parts t (c .loop .b .state .position) (on c .within .sound) .0 in
-    let x = chosen-branch t (c .loop .b .state .position) m b e in
-    let f = sound-facts t s in
-    record {
-      rises = can-rise t (c .loop .c) s (led-rising _ _ _ _ (begun-on c) _ (c .before .before .before .before .before .pre .2) (c .loop .inv .0)) b (x .0) _ (x .1);
-      leads = omega (arith, f .targets b (x .0), f .few);
-    }
+    chosen-follows _ _ _ (sound-parts _ _ (on c .within .sound) .0)
+    (led-rising _ _ _ _ (begun-on c) _ (c .before .before .before .before .before .pre .2) (c .loop .inv .0)) m b e
 
 loop-holds : tie.Need-loop-holds Inv-loop μ-loop
 loop-holds c = (no-turn, refl, refl)
@@ -80,39 +70,38 @@ same-length-4 c = c .before .before .before .to-host .given ∙ c .before .befor
 returns-2 : tie.Need-returns-2 Inv-loop μ-loop
 returns-2 c = rw (c .before .before .before .before .pass .ensures .stays (λ h. omega (arith, h, c .if3 .taken))) (c .before .before .before .before .before .before .before .before .before .before .before .before .loop .inv .0)
 
-raise-requires : tie.Need-raise-requires Inv-loop μ-loop
-raise-requires c κs = taken (c .before .before .before .before .before .before .before .before .before .before .before .before .before) _ _ (c .before .before .before .before .before .pass .ensures .picked (c .before .if3 .left) .1) .rises
-
-cast-next : tie.Need-cast-next Inv-loop μ-loop
-cast-next c = record { fits = taken (c .before .before .before .before .before .before .before .before .before .before .before .before .before .before .before .before) _ _ (c .before .before .before .before .before .before .before .before .pass .ensures .picked (c .before .before .before .before .if3 .left) .1) .leads }
+follow-requires : tie.Need-follow-requires Inv-loop μ-loop
+follow-requires c κs = taken (c .before .before .before .before .before .before .before .before .before .before .before .before .before) _ _ (c .before .before .before .before .before .pass .ensures .picked (c .before .if3 .left) .1)
 
 further-requires : tie.Need-further-requires Inv-loop μ-loop
 further-requires c κs =
-    let w = c .before .before .before .before .before .before .before .before .pass .ensures .within (c .before .before .before .before .if3 .left) in
-    (omega (arith, w .0, c .before .before .before .before .before .before .before .before .before .before .before .before .before .before .before .before .before .before .before .before .before .good), omega (arith, w .1, c .before .before .before .before .before .before .before .before .before .before .before .before .before .before .before .before .loop .inv .2, c .before .before .before .before .before .before .before .before .before .before .before .before .before .before .before .before .before .before .before .before .before .good))
+    let w = c .before .before .before .before .before .before .pass .ensures .within (c .before .before .if3 .left) in
+    (omega (arith, w .0, c .before .before .before .before .before .before .before .before .before .before .before .before .before .before .before .before .before .before .before .good), omega (arith, w .1, c .before .before .before .before .before .before .before .before .before .before .before .before .before .before .loop .inv .2, c .before .before .before .before .before .before .before .before .before .before .before .before .before .before .before .before .before .before .before .good))
 
 loop-less : tie.Need-loop-less Inv-loop μ-loop
 unfolding batched last-of told
 loop-less c =
-    let o = on (c .before .before .before .before .before .before .before .before .before .before .before .before .before .before .before .before .before .before) in
+    let o = on (c .before .before .before .before .before .before .before .before .before .before .before .before .before .before .before .before) in
     rw (c .forwarded .ensures, c .before .further .ensures)
-    (turn-less _ _ _ _ _ o (device-straight _ _ _ _ o (c .before .before .before .before .before .before .before .before .before .before .before .before .before .if1 .left) _ _ (c .before .before .before .before .before .before .if3 .left) (c .before .before .before .before .before .before .before .before .before .before .before .before .if2 .taken) (c .before .before .before .before .before .before .before .before .before .before .pass .ensures)))
+    (turn-less _ _ _ _ _ o (device-straight _ _ _ _ o (c .before .before .before .before .before .before .before .before .before .before .before .if1 .left) _ _ (c .before .before .before .before .if3 .left) (c .before .before .before .before .before .before .before .before .before .before .if2 .taken) (c .before .before .before .before .before .before .before .before .pass .ensures)))
 
 loop-again : tie.Need-loop-again Inv-loop μ-loop
 unfolding batched last-of told
 loop-again c =
-    let o = on (c .before .before .before .before .before .before .before .before .before .before .before .before .before .before .before .before .before .before) in
-    let l = c .before .before .before .before .before .before .before .before .before .before .before .before .before .before .before .before .before .before .loop .inv in
-    let p = c .before .before .before .before .before .before .before .before .before .before .pass .ensures in (
+    let o = on (c .before .before .before .before .before .before .before .before .before .before .before .before .before .before .before .before) in
+    let l = c .before .before .before .before .before .before .before .before .before .before .before .before .before .before .before .before .loop .inv in
+    let p = c .before .before .before .before .before .before .before .before .pass .ensures in
+    let f = c .before .before .follow .ensures in (
       rw (
         c .forwarded .ensures,
         c .before .further .ensures,
-        c .before .before .before .before .raise .ensures,
-        ← device-raised _ _ _ _ o (c .before .before .before .before .before .before .before .before .before .before .before .before .before .if1 .left) _ _ (c .before .before .before .before .before .before .if3 .left) (c .before .before .before .before .before .before .before .before .before .before .before .before .if2 .taken) p (c .before .before .before .before .before .before .before .before .before .before .before .before .before .before .before .before .before .before .loop .c),
+        f .0,
+        f .1,
+        ← device-raised _ _ _ _ o (c .before .before .before .before .before .before .before .before .before .before .before .if1 .left) _ _ (c .before .before .before .before .if3 .left) (c .before .before .before .before .before .before .before .before .before .before .if2 .taken) p (c .before .before .before .before .before .before .before .before .before .before .before .before .before .before .before .before .loop .c),
       )
-          (a-turn (l .0) (device-straight _ _ _ _ o (c .before .before .before .before .before .before .before .before .before .before .before .before .before .if1 .left) _ _ (c .before .before .before .before .before .before .if3 .left) (c .before .before .before .before .before .before .before .before .before .before .before .before .if2 .taken) p)),
+          (a-turn (l .0) (device-straight _ _ _ _ o (c .before .before .before .before .before .before .before .before .before .before .before .if1 .left) _ _ (c .before .before .before .before .if3 .left) (c .before .before .before .before .before .before .before .before .before .before .if2 .taken) p)),
       l .1,
-      c .before .before .before .before .before .before .before .before .before .to-host .given ∙ l .2,
+      c .before .before .before .before .before .before .before .to-host .given ∙ l .2,
     )
 
 pass-requires-2 : tie.Need-pass-requires-2 Inv-loop μ-loop
@@ -128,38 +117,37 @@ same-length-6 c = c .before .before .before .before .before .before .before .bef
 returns-3 : tie.Need-returns-3 Inv-loop μ-loop
 returns-3 c = rw (c .before .before .before .before .pass2 .ensures .stays (λ h. omega (arith, h, c .if4 .taken))) (c .before .before .before .before .before .before .before .before .before .before .before .before .loop .inv .0)
 
-raise-requires-2 : tie.Need-raise-requires-2 Inv-loop μ-loop
-raise-requires-2 c κs = taken (c .before .before .before .before .before .before .before .before .before .before .before .before .before) _ _ (c .before .before .before .before .before .pass2 .ensures .picked (c .before .if4 .left) .1) .rises
-
-cast-next-2 : tie.Need-cast-next-2 Inv-loop μ-loop
-cast-next-2 c = record { fits = taken (c .before .before .before .before .before .before .before .before .before .before .before .before .before .before .before .before) _ _ (c .before .before .before .before .before .before .before .before .pass2 .ensures .picked (c .before .before .before .before .if4 .left) .1) .leads }
+follow-requires-2 : tie.Need-follow-requires-2 Inv-loop μ-loop
+follow-requires-2 c κs = taken (c .before .before .before .before .before .before .before .before .before .before .before .before .before) _ _ (c .before .before .before .before .before .pass2 .ensures .picked (c .before .if4 .left) .1)
 
 further-requires-2 : tie.Need-further-requires-2 Inv-loop μ-loop
 further-requires-2 c κs =
-    let w = c .before .before .before .before .before .before .before .before .pass2 .ensures .within (c .before .before .before .before .if4 .left) in
-    (omega (arith, w .0, c .before .before .before .before .before .before .before .before .before .before .before .before .before .before .before .before .before .before .before .before .before .good), omega (arith, w .1, c .before .before .before .before .before .before .before .before .before .before .before .before .before .before .before .before .loop .inv .1, c .before .before .before .before .before .before .before .before .before .before .before .before .before .before .before .before .before .before .before .before .before .good))
+    let w = c .before .before .before .before .before .before .pass2 .ensures .within (c .before .before .if4 .left) in
+    (omega (arith, w .0, c .before .before .before .before .before .before .before .before .before .before .before .before .before .before .before .before .before .before .before .good), omega (arith, w .1, c .before .before .before .before .before .before .before .before .before .before .before .before .before .before .loop .inv .1, c .before .before .before .before .before .before .before .before .before .before .before .before .before .before .before .before .before .before .before .good))
 
 loop-less-2 : tie.Need-loop-less-2 Inv-loop μ-loop
 unfolding batched last-of told
 loop-less-2 c =
-    let o = on (c .before .before .before .before .before .before .before .before .before .before .before .before .before .before .before .before .before .before) in
+    let o = on (c .before .before .before .before .before .before .before .before .before .before .before .before .before .before .before .before) in
     rw (c .forwarded2 .ensures, c .before .further2 .ensures)
-    (turn-less _ _ _ _ _ o (host-straight _ _ _ _ o (c .before .before .before .before .before .before .before .before .before .before .before .before .before .if1 .left) _ _ (c .before .before .before .before .before .before .if4 .left) (c .before .before .before .before .before .before .before .before .before .before .before .before .if2 .left) (c .before .before .before .before .before .before .before .before .before .before .pass2 .ensures)))
+    (turn-less _ _ _ _ _ o (host-straight _ _ _ _ o (c .before .before .before .before .before .before .before .before .before .before .before .if1 .left) _ _ (c .before .before .before .before .if4 .left) (c .before .before .before .before .before .before .before .before .before .before .if2 .left) (c .before .before .before .before .before .before .before .before .pass2 .ensures)))
 
 loop-again-2 : tie.Need-loop-again-2 Inv-loop μ-loop
 unfolding batched last-of told
 loop-again-2 c =
-    let o = on (c .before .before .before .before .before .before .before .before .before .before .before .before .before .before .before .before .before .before) in
-    let l = c .before .before .before .before .before .before .before .before .before .before .before .before .before .before .before .before .before .before .loop .inv in
-    let p = c .before .before .before .before .before .before .before .before .before .before .pass2 .ensures in (
+    let o = on (c .before .before .before .before .before .before .before .before .before .before .before .before .before .before .before .before) in
+    let l = c .before .before .before .before .before .before .before .before .before .before .before .before .before .before .before .before .loop .inv in
+    let p = c .before .before .before .before .before .before .before .before .pass2 .ensures in
+    let f = c .before .before .follow2 .ensures in (
       rw (
         c .forwarded2 .ensures,
         c .before .further2 .ensures,
-        c .before .before .before .before .raise2 .ensures,
-        ← host-raised _ _ _ _ o (c .before .before .before .before .before .before .before .before .before .before .before .before .before .if1 .left) _ _ (c .before .before .before .before .before .before .if4 .left) (c .before .before .before .before .before .before .before .before .before .before .before .before .if2 .left) p (c .before .before .before .before .before .before .before .before .before .before .before .before .before .before .before .before .before .before .loop .c),
+        f .0,
+        f .1,
+        ← host-raised _ _ _ _ o (c .before .before .before .before .before .before .before .before .before .before .before .if1 .left) _ _ (c .before .before .before .before .if4 .left) (c .before .before .before .before .before .before .before .before .before .before .if2 .left) p (c .before .before .before .before .before .before .before .before .before .before .before .before .before .before .before .before .loop .c),
       )
-          (a-turn (l .0) (host-straight _ _ _ _ o (c .before .before .before .before .before .before .before .before .before .before .before .before .before .if1 .left) _ _ (c .before .before .before .before .before .before .if4 .left) (c .before .before .before .before .before .before .before .before .before .before .before .before .if2 .left) p)),
-      c .before .before .before .before .before .before .before .before .before .to-device .given ∙ l .1,
+          (a-turn (l .0) (host-straight _ _ _ _ o (c .before .before .before .before .before .before .before .before .before .before .before .if1 .left) _ _ (c .before .before .before .before .if4 .left) (c .before .before .before .before .before .before .before .before .before .before .if2 .left) p)),
+      c .before .before .before .before .before .before .before .to-device .given ∙ l .1,
       l .2,
     )
 
@@ -181,11 +169,7 @@ straight-on-spec =
     same-length-3
     same-length-4
     returns-2
-    raise-requires
-    (λ c. search needs)
-    (λ c. search needs)
-    (λ c. search needs)
-    cast-next
+    follow-requires
     further-requires
     (λ c κs. search needs)
     loop-less
@@ -194,11 +178,7 @@ straight-on-spec =
     same-length-5
     same-length-6
     returns-3
-    raise-requires-2
-    (λ c. search needs)
-    (λ c. search needs)
-    (λ c. search needs)
-    cast-next-2
+    follow-requires-2
     further-requires-2
     (λ c κs. search needs)
     loop-less-2
