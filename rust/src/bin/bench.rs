@@ -10,7 +10,7 @@ use sojimu::bench::scans::Scan;
 use sojimu::second::random::label_of;
 use sojimu::second::table::{Branch, Raw, Sort, Table as Lists};
 use sojimu::second::{fit, text};
-use sojimu::{message, Fitting, Table};
+use sojimu::{message, Fitting, Party, Table, Verdict};
 use std::hint::black_box;
 
 /// How many messages a scan has.
@@ -81,22 +81,38 @@ impl Row {
 /// One step, the mean over a round of the conversation.
 fn step(input: &Input) -> Row {
     let table = &input.table();
-    let (start, round) = &input.conversation();
-    let (mut one, mut other) = (*start, *start);
+    let (start, _) = input.conversation();
+    let (mut one, mut other) = (start, start);
     let (mut out, mut room) = ([0; 300], [0; 300]);
+    steps(
+        input,
+        "plain monitor",
+        |side, message| table.step(black_box(&mut one), side, message, &mut out),
+        |side, message| plain::step(table, black_box(&mut other), side, message, &mut room),
+    )
+}
+
+/// A round of the conversation, step by step of either contender.
+fn steps(
+    input: &Input,
+    against: &'static str,
+    mut proved: impl FnMut(Party, &[u8]) -> Verdict,
+    mut other: impl FnMut(Party, &[u8]) -> Verdict,
+) -> Row {
+    let (_, round) = &input.conversation();
     Row::of(
         "step",
         input.name,
-        "plain monitor",
+        against,
         round.len(),
         &mut || {
             for (side, message) in round {
-                black_box(table.step(black_box(&mut one), *side, black_box(message), &mut out));
+                black_box(proved(*side, black_box(message)));
             }
         },
         &mut || {
             for (side, message) in round {
-                black_box(plain::step(table, black_box(&mut other), *side, black_box(message), &mut room));
+                black_box(other(*side, black_box(message)));
             }
         },
     )
@@ -123,49 +139,29 @@ fn counts(input: &Input) -> Row {
 /// One step over a table with shares, against one over the same without.
 fn shares(input: &Input) -> Row {
     let (table, shared) = (&input.table(), &input.shared());
-    let (start, round) = &input.conversation();
-    let (mut one, mut other) = (*start, *start);
+    let (start, _) = input.conversation();
+    let (mut one, mut other) = (start, start);
     let (mut out, mut room) = ([0; 300], [0; 300]);
-    Row::of(
-        "step",
-        input.name,
+    steps(
+        input,
         "the same without shares",
-        round.len(),
-        &mut || {
-            for (side, message) in round {
-                black_box(shared.step(black_box(&mut one), *side, black_box(message), &mut out));
-            }
-        },
-        &mut || {
-            for (side, message) in round {
-                black_box(table.step(black_box(&mut other), *side, black_box(message), &mut room));
-            }
-        },
+        |side, message| shared.step(black_box(&mut one), side, message, &mut out),
+        |side, message| table.step(black_box(&mut other), side, message, &mut room),
     )
 }
 
-/// The same on the small table, against the monitor that has no table.
+/// One step on the small table, against the monitor that has no table.
 fn hand_written() -> Row {
-    let input = small();
+    let input = &small();
     let table = &input.table();
-    let (start, round) = &input.conversation();
-    let (mut state, mut place) = (*start, Place::Asking);
+    let (mut state, _) = input.conversation();
+    let mut place = Place::Asking;
     let (mut out, mut room) = ([0; 300], [0; 300]);
-    Row::of(
-        "step",
-        input.name,
+    steps(
+        input,
         "written by hand, no table",
-        round.len(),
-        &mut || {
-            for (side, message) in round {
-                black_box(table.step(black_box(&mut state), *side, black_box(message), &mut out));
-            }
-        },
-        &mut || {
-            for (side, message) in round {
-                black_box(by_hand::step(black_box(&mut place), *side, black_box(message), &mut room));
-            }
-        },
+        |side, message| table.step(black_box(&mut state), side, message, &mut out),
+        |side, message| by_hand::step(black_box(&mut place), side, message, &mut room),
     )
 }
 
