@@ -1,5 +1,5 @@
 -- The bytes of document 01 against the classes of bytes that the scanner goes by. Assumes nothing.
-use mathlib.Core.Path.{_≡_, refl, sym, ap, ap₂, _∙_}
+use mathlib.Core.Path.{_≡_, refl, sym, ap, _∙_}
 use mathlib.Core.Bool.{cond, Bool, true, false, _&&_, _||_}
 use mathlib.Core.Logic.{inl, inr}
 use mathlib.Core.List.{List, [], _∷_, map}
@@ -12,6 +12,7 @@ use Rattle.table.specs.Ascii.{ascii}
 use Rattle.table.specs.Lists.{every, same, matched}
 use Rattle.table.specs.Table.{upper, letter-or-digit}
 use Rattle.table.proofs.Lists.{both, never}
+use Rattle.table.proofs.Facts.{same-eq}
 use Rattle.text.specs.Token.{one-of}
 use Rattle.text.specs.Scanner.{is-space, class-of}
 use Rattle.text.specs.declared.token.Class.{Class}
@@ -68,19 +69,12 @@ each-one f (k ∷ ks) b a e = go (eqb b k) refl e (each-one f ks b (both (f k) (
     go true q e rest = ap f (eqb-true b k q) ∙ both (f k) (every f ks) a .0
     go false q e rest = rest e
 
-pub same-is : (a b : List ℕ) → same a b ≡ true → a ≡ b
-unfolding same matched
-same-is [] [] e = refl
-same-is [] (y ∷ b) e = never e refl
-same-is (x ∷ a) [] e = never e refl
-same-is (x ∷ a) (y ∷ b) e = let p = both (eqb x y) (same a b) e in ap₂ _∷_ (eqb-true x y (p .0)) (same-is a b (p .1))
-
 -- a sign of the scanner's is one of document 01's, and its kind is its byte
 is-listed : (b : ℕ) → one-of S.signs b ≡ true → Listed sign-tokens b (b ∷ [])
 unfolding every same matched beside
 is-listed b e =
     let p = both (one-of (kinds sign-tokens) b) (same (beside sign-tokens b) (b ∷ [])) (each-one (λ k. one-of (kinds sign-tokens) k && same (beside sign-tokens k) (k ∷ [])) S.signs b refl e) in
-    rw (same-is (beside sign-tokens b) (b ∷ []) (p .1)) at (beside-listed sign-tokens b (p .0))
+    rw (same-eq (beside sign-tokens b) (b ∷ []) (p .1)) at (beside-listed sign-tokens b (p .0))
 
 -- ---- from a class to its bytes
 

@@ -12,6 +12,7 @@ use borrow.Author.Tests.{eq-eqb, ne-eqb, eqb-true, eqb-false, le-leb, lt-leb, le
 use Rattle.table.specs.Lists.{every, same}
 use Rattle.table.specs.Table.{upper, letter-or-digit}
 use Rattle.table.proofs.Lists.{both, join}
+use Rattle.table.proofs.Facts.{same-eq}
 use Rattle.text.specs.Token.{token}
 use Rattle.text.specs.Scanner.{is-space, class-of, run-end, word-kind, word-token, name-token, number-kind, number-token, dots-token, begin-at, token-at, tokens-from, tokens}
 use Rattle.text.specs.Grammar.{Tok, number, sign, tok-of}
@@ -25,7 +26,7 @@ use Rattle.table.specs.Ascii.{ascii}
 use Rattle.spelling.specs.Spelling.{a-digit, dot, blank, sign-tokens, dot-tokens, word-tokens, Listed, Spells, a-sign, a-dot, a-word, a-name, a-zero, a-number, a-negative, EndsRun, Spelt, ran-out, a-blank, a-token}
 use Rattle.spelling.specs.Places.{Begins}
 use Rattle.spelling.specs.Theorems.{WellFormed, SpeltScanned}
-use Rattle.spelling.proofs.Classes.{same-is, Seen, seen, space-blank}
+use Rattle.spelling.proofs.Classes.{Seen, seen, space-blank}
 use Rattle.spelling.proofs.Here.{inside, byte-here, next-here, part-here, past-here, run-here, Found, found, Each, each-listed}
 
 -- the tokens from p on, as the grammar sees them
@@ -104,11 +105,11 @@ keyword w h = go (same w (ascii "end")) refl (same w (ascii "rec")) refl (same w
         → (d : Bool) → same w (ascii "text") ≡ d → (f : Bool) → same w (ascii "flag") ≡ f
         → (_≡_ {A = ℕ} (cond a 101 (cond b 114 (cond c 105 (cond d 116 (cond f 102 1))))) 1 → ⊥)
         → Listed word-tokens (cond a 101 (cond b 114 (cond c 105 (cond d 116 (cond f 102 1))))) w
-    go true e b i c j d k f l h = inl (refl, same-is w _ e)
-    go false e true i c j d k f l h = inr (inl (refl, same-is w _ i))
-    go false e false i true j d k f l h = inr (inr (inl (refl, same-is w _ j)))
-    go false e false i false j true k f l h = inr (inr (inr (inl (refl, same-is w _ k))))
-    go false e false i false j false k true l h = inr (inr (inr (inr (inl (refl, same-is w _ l)))))
+    go true e b i c j d k f l h = inl (refl, same-eq w _ e)
+    go false e true i c j d k f l h = inr (inl (refl, same-eq w _ i))
+    go false e false i true j d k f l h = inr (inr (inl (refl, same-eq w _ j)))
+    go false e false i false j true k f l h = inr (inr (inr (inl (refl, same-eq w _ k))))
+    go false e false i false j false k true l h = inr (inr (inr (inr (inl (refl, same-eq w _ l)))))
     go false e false i false j false k false l h = absurd (h refl)
 
 nothing-more : (v : List ℕ) → EndsRun (λ b. false) v

@@ -12,12 +12,13 @@ use Rattle.table.specs.Table.{Sort, ends, sends, receives, same-sort, sort-code
 use Rattle.table.specs.View.{Words, view}
 use Rattle.table.specs.declared.Party.{Party}
 use Rattle.table.specs.declared.Party.the-variants.{Device, Host}
-use Rattle.table.proofs.Lists.{never, both, join}
+use Rattle.table.proofs.Lists.{never}
 use Rattle.message.specs.Message.{read, well-formed}
 use Rattle.message.specs.Rules.{Rules, table-rules, Said, turn, next, leads, led}
 use Rattle.message.proofs.Judging.{none-some, some-eq}
 use Rattle.monitor.specs.Step.{Told, refused, blamed, forwarded, Outcome, outcome}
-use Rattle.monitor.proofs.Demand.{or-else, blamed-append, forwarded-append, leads-more, next-in-turn, demand-two, replies-kept}
+use Rattle.monitor.proofs.Demand.{or-else, blamed-append, blamed-for-good, forwarded-append, leads-more, next-in-turn, demand-two, replies-kept}
+use Rattle.fit.proofs.Reaching.{moves-append}
 use Rattle.monitor.specs.Conversation.{Sent, Event, conversation, said-by, is-forwarded, forwarded-ones, blamed-else, blamed-first, Judgeable, Met, WatchedTable, Reply}
 use Rattle.fit.specs.Machine.{Standing, running, device-blamed, jammed, Machine, Move, moves, Effect, forward, halt, from-device, from-host, while-running, arrived, fresh-machine, by-side, effect, does, after, move, play, run, bad, Safe}
 use Rattle.together.specs.Unblamed.{FitsUnblamed, RepliesUnblamed}
@@ -28,10 +29,6 @@ use Rattle.together.specs.Unblamed.{FitsUnblamed, RepliesUnblamed}
 blamed-once : (a : List Event) (e : Event) → blamed-first a ≡ none → blamed-first (a ++ (e ∷ [])) ≡ blamed-first (e ∷ [])
 unfolding or-else
 blamed-once a e h = blamed-append a (e ∷ []) ∙ ap (λ o. or-else o (blamed-first (e ∷ []))) h
-
-blamed-for-good : (a b : List Event) (side : Party) → blamed-first a ≡ some side → blamed-first (a ++ b) ≡ some side
-unfolding or-else
-blamed-for-good a b side h = blamed-append a b ∙ ap (λ o. or-else o (blamed-first b)) h
 
 -- where two lists are mapped to one, each element of the first has its fellow in the second
 record Fellow {A B C : Type 0} (f : A → C) (g : B → C) (a : A) (bs : List B) : Type 0 where
@@ -55,13 +52,6 @@ module _ {D P : Type 0} (d : Rules D) (p : Rules P) where
   unfolding play
   play-append m [] ws = refl
   play-append m (v ∷ vs) ws = play-append (move d p m v) vs ws
-
-moves-one : (vs : List Move) (v : Move) → moves vs ≡ true → well-formed (v .bytes) ≡ true → moves (vs ++ (v ∷ [])) ≡ true
-unfolding moves every
-moves-one [] v e f = join f refl
-moves-one (w ∷ vs) v e f =
-    let x = both (well-formed (w .bytes)) (moves vs) e in
-    join (x .0) (moves-one vs v (x .1) f)
 
 -- ---- sorts and turns
 
@@ -134,14 +124,14 @@ module _ (D : Type 0) (d : Rules D) (p : Words) (safe : Safe d (table-rules (vie
     -- a move that is forwarded leads on
     led-on : (y : D) (k : ℕ) → effect d R x j (as-move m) ≡ forward y k → Led y k
     unfolding after
-    led-on y k f = record { by = l .by ++ (as-move m ∷ []); real = moves-one (l .by) (as-move m) (l .real) formed; is = one-more (forward y k) f }
+    led-on y k f = record { by = l .by ++ (as-move m ∷ []); real = moves-append (l .by) (as-move m) (l .real) formed; is = one-more (forward y k) f }
 
     -- and none ends badly
     stops-well : (s : Standing) → effect d R x j (as-move m) ≡ halt s → bad s ≡ false
     unfolding after Safe
     stops-well s f =
         sym (ap (λ (k : Machine D ℕ). bad (k .standing)) (one-more (halt s) f))
-        ∙ safe (l .by ++ (as-move m ∷ [])) (moves-one (l .by) (as-move m) (l .real) formed)
+        ∙ safe (l .by ++ (as-move m ∷ [])) (moves-append (l .by) (as-move m) (l .real) formed)
 
     device-effect : (o : Option D) (q : Option ℕ) → m .side ≡ Device → same-sort (d .sort x) sends ≡ true
         → d .allows x (read (m .bytes)) ≡ o → R .allows j (read (m .bytes)) ≡ q → effect d R x j (as-move m) ≡ from-device o q
