@@ -13,10 +13,10 @@ use Rattle.table.proofs.Aside.{same-states}
 use Rattle.message.specs.Judge.{allows, judge}
 use Rattle.message.specs.Make.{branch}
 use Rattle.message.specs.Rules.{table-rules}
-use Rattle.fit.specs.Machine.{Machine, Move, fresh-machine, move, moves, run, bad, all-forwarded, Safe}
+use Rattle.fit.specs.Machine.{Machine, Move, fresh-machine, move, moves, run, bad, all-forwarded, Safe, Fewest}
 use Rattle.fit.specs.Fit.{both-are, right, Reachable, Fits, Count, owns, spoken, speaks, shown, of-speakers, shown-moves, but-last}
 use Rattle.fit.specs.Fit.{last-count, field-named, Failing}
-use Rattle.fit.specs.Answer.{Answer, refused, fits, fails, fit-questions, Fewest, Answered}
+use Rattle.fit.specs.Answer.{Answer, refused, fits, fails, fit-questions, Answered}
 use Rattle.fit.specs.Answer.{FitSharesUnseen, SafeSharesUnseen}
 
 -- a table with other shares
@@ -56,7 +56,7 @@ module _ (d p : Table) (w v : List ℕ) where
         is = x .is;
       }
 
-  fewest-on : (K : ℕ) → Fewest d p K → Fewest e q K
+  fewest-on : (K : ℕ) → Fewest (table-rules d) (table-rules p) K → Fewest (table-rules e) (table-rules q) K
   unfolding Fewest sort allows judge
   fewest-on K f = f
 
@@ -153,7 +153,7 @@ module _ (d e p q : Words) (a : SharesAside d e) (b : SharesAside p q) where
         within = rw (sym (same-states d e a), sym (same-states p q b)) (x .within);
         list = x .list;
         failing = on-view (λ s t. Failing s t (x .numbers) h) (λ w v. failing-on (view d) (view p) w v (x .failing));
-        fewest = on-view (λ s t. Fewest s t K) (λ w v. fewest-on (view d) (view p) w v K (x .fewest));
+        fewest = on-view (λ s t. Fewest (table-rules s) (table-rules t) K) (λ w v. fewest-on (view d) (view p) w v K (x .fewest));
       }
 
 pub fit-shares-unseen : FitSharesUnseen

@@ -23,9 +23,9 @@ use Rattle.message.proofs.Columns.{put-opening}
 use Rattle.text.specs.Reading.{reads}
 use Rattle.text.specs.Filled.{Reading}
 use Rattle.text.proofs.Exactly.{read-sound}
-use Rattle.fit.specs.Machine.{fresh-machine, run}
+use Rattle.fit.specs.Machine.{fresh-machine, run, Fewest}
 use Rattle.fit.specs.Fit.{Failing}
-use Rattle.fit.specs.Answer.{Answered, answer-of, fit-questions, Failed, Fewest}
+use Rattle.fit.specs.Answer.{Answered, answer-of, fit-questions, Failed}
 use Rattle.fit.specs.declared.Fitting.{Fitting}
 use Rattle.fit.proofs.Answers.{room-most}
 use Rattle.table.specs.Ascii.{ascii, decimal}
@@ -84,7 +84,7 @@ module _ (d p : Words) (sd : sound-of d ≡ true) (sp : sound-of p ≡ true) (li
     answered-fails =
         says-no-fit (take K after) (high-of h) (shows .failing)
         (subst₂ (λ (n m : ℕ). length (take K after) ≤ n * m) (sym (sorts-of d)) (sym (sorts-of p)) (omega (arith, many, failed .within)))
-        (subst (λ (n : ℕ). Fewest (view d) (view p) n) (sym many) (failed .fewest))
+        (subst (λ (n : ℕ). Fewest (rules d) (rules p) n) (sym many) (failed .fewest))
 
     -- the first line, and the rest
     pub no-fit-is :

@@ -14,9 +14,8 @@ use Rattle.table.proofs.Lists.{both, join}
 use Rattle.message.specs.Message.{count-of, well-formed}
 use Rattle.message.specs.Rules.{Rules, table-rules}
 use Rattle.fit.specs.Machine.{running, jammed, Machine, arrived, fresh-machine, Move, moves, move, does, play, run, bad, is-forward}
-use Rattle.fit.specs.Machine.{all-forwarded}
+use Rattle.fit.specs.Machine.{all-forwarded, Fewest}
 use Rattle.fit.specs.Fit.{spoken, shown, but-last, last-count, field-named, Failing}
-use Rattle.fit.specs.Answer.{Fewest}
 use Rattle.report.specs.Report.{move-line, move-lines, ending}
 use Rattle.report.specs.Playing.{lines-from}
 
@@ -39,7 +38,7 @@ module _ (d p : Table) where
     pub field-is-there : field-named h (last-count (shown d p m ks h)) ≡ true
     pub fewest : (vs : List Move) → moves vs ≡ true → bad (play D P m vs .standing) ≡ true → length ks ≤ length vs
 
-  pub remains-start : (ks : List ℕ) (h : Option ℕ) → Failing d p ks h → Fewest d p (length ks) → Remains (fresh-machine D P) ks h
+  pub remains-start : (ks : List ℕ) (h : Option ℕ) → Failing d p ks h → Fewest D P (length ks) → Remains (fresh-machine D P) ks h
   unfolding Fewest run
   remains-start ks h f g =
       record { real = f .real; forwarded = f .forwarded; ends-badly = f .ends-badly; field-is-there = f .field-is-there; fewest = g }

@@ -20,9 +20,8 @@ use Rattle.message.specs.Judge.{allows}
 use Rattle.message.specs.Layout.{put-at}
 use Rattle.message.proofs.Pieces.{put-length, put-put, put-none}
 use Rattle.fit.specs.Machine.{Standing, running, device-blamed, host-blamed, jammed, Machine, arrived, fresh-machine, Move, Effect}
-use Rattle.fit.specs.Machine.{nothing, forward, halt, effect, does, after, move, play, run, bad, is-forward}
+use Rattle.fit.specs.Machine.{nothing, forward, halt, effect, does, after, move, play, run, bad, is-forward, Fewest}
 use Rattle.fit.specs.Fit.{shown, Failing}
-use Rattle.fit.specs.Answer.{Fewest}
 use Rattle.fit.proofs.Allow.{goes-by}
 use Rattle.fit.proofs.Columns.{view-sound}
 use Rattle.fit.specs.Search.{does-at}
@@ -134,7 +133,7 @@ pub record Playing (d p : Words) (ks : List ℕ) (h : Option ℕ) (at : ℕ) (be
   pub over : n ≡ length ks → ending (machine .standing) ≡ cond (r .blamed) (ending device-blamed) (ending jammed)
 
 module _ (d p : Words) (ks : List ℕ) (h : Option ℕ) (sd : sound-of d ≡ true) (sp : sound-of p ≡ true) where
-  pub playing-start : (at : ℕ) (before : List ℕ) → Failing (view d) (view p) ks h → Fewest (view d) (view p) (length ks)
+  pub playing-start : (at : ℕ) (before : List ℕ) → Failing (view d) (view p) ks h → Fewest (rules d) (rules p) (length ks)
       → Playing d p ks h at before before (record { state = 0; position = 0; blamed = false }) at 0
   unfolding fresh-machine arrived bad shown run play
   playing-start at before f g =
@@ -322,7 +321,7 @@ module _ (d p : Words) (list : List ℕ) (K : ℕ) (h : Option ℕ) (s : ListSho
       → Playing d p (take K list) h at before before (record { state = 0; position = 0; blamed = false }) at 0
   shows-start at before =
       playing-start d p (take K list) h (s .d-sound) (s .p-sound) at before (s .failing)
-      (subst (λ (n : ℕ). Fewest (view d) (view p) n) (sym many) (s .fewest))
+      (subst (λ (n : ℕ). Fewest (rules d) (rules p) n) (sym many) (s .fewest))
 
   module _ {at : ℕ} {before now : List ℕ} (low : at ≤ 13) (room : 16384 ≤ length before) {r : Pair} {next n : ℕ}
       (g : Playing d p (take K list) h at before now r next n) where

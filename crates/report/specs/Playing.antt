@@ -15,9 +15,8 @@ use Rattle.message.specs.Layout.{put-at}
 use Rattle.message.specs.Rules.{Rules, table-rules}
 use Rattle.table.specs.declared.Party.{Party}
 use Rattle.fit.specs.Machine.{Machine, Move, Effect, nothing, forward, halt, Standing, running, device-blamed, host-blamed, jammed}
-use Rattle.fit.specs.Machine.{effect, fresh-machine, play}
+use Rattle.fit.specs.Machine.{effect, fresh-machine, play, Fewest}
 use Rattle.fit.specs.Fit.{spoken, shown, field-named, Failing}
-use Rattle.fit.specs.Answer.{Fewest}
 use Rattle.report.specs.Report.{move-line, move-lines, ending, Compared, Reported}
 use Rattle.report.specs.declared.play.Heard.{Heard}
 use Rattle.report.specs.declared.play.Pair.{Pair}
@@ -138,7 +137,7 @@ pub record ListShows (d p : Words) (list : List ℕ) (K : ℕ) (h : Option ℕ) 
   pub few : K ≤ 1024
   pub long : length list ≡ 1024
   pub failing : Failing (view d) (view p) (take K list) h
-  pub fewest : Fewest (view d) (view p) K
+  pub fewest : Fewest (rules d) (rules p) K
 
 -- the lines of the list's first K moves, and how they end, stand from a place on
 abbrev pub Ended : Table → Table → List ℕ → ℕ → Option ℕ → ℕ → List ℕ → List ℕ → ℕ → Type 0
