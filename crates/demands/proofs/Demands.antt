@@ -23,13 +23,14 @@ use Rattle.types.proofs.Texts.{text-rules}
 use Rattle.types.proofs.Headline.{type-demand}
 use Rattle.monitor.specs.Conversation.{Event}
 use Rattle.monitor.proofs.Watching.{batches-watched}
-use Rattle.fit.specs.Machine.{Safe, Unsafe}
+use Rattle.fit.specs.Machine.{Move, Safe, Unsafe, Shortest}
 use Rattle.fit.specs.Answer.{Answer, refused, fits, fails, fit-questions, Demand}
 use Rattle.fit.proofs.Demand.{demand-three}
+use Rattle.fit.proofs.Fewest.{fit-fewest}
 use Rattle.together.proofs.Unblamed.{fits-unblamed}
-use Rattle.report.proofs.Exactly.{reports-fit, reports-no-fit}
-use Rattle.demands.specs.Demands.{TextOf, ReadOfTexts, OneType, DemandTwoOfTexts, BatchesOfTexts, DemandThreeOfTexts, ReportsOfTexts, UnblamedOfTexts}
-use Rattle.demands.proofs.Likeness.{alike-itself, safe-like, unsafe-like}
+use Rattle.report.proofs.Exactly.{reports-fit, reports-no-fit, reports-fewest}
+use Rattle.demands.specs.Demands.{TextOf, ReadOfTexts, OneType, DemandTwoOfTexts, BatchesOfTexts, DemandThreeOfTexts, ReportsOfTexts, FewestOfTexts, ReportsFewestOfTexts, UnblamedOfTexts}
+use Rattle.demands.proofs.Likeness.{alike-itself, safe-like, unsafe-like, shortest-like}
 
 -- ---- one text
 
@@ -85,6 +86,11 @@ module _ (protocol device : List ℕ) (p d : Ty) (x : TextOf protocol p) (y : Te
       unsafe-like (Stands-for T) (Stands-for U) (type-rules d) (table-rules T) (type-rules p) (table-rules U) (goes-along device d y)
       (goes-along protocol p x)
 
+  shortest : (K : ℕ) (vs : List Move) → Shortest (type-rules d) (type-rules p) K vs ↔ Shortest (table-rules T) (table-rules U) K vs
+  shortest =
+      shortest-like (Stands-for T) (Stands-for U) (type-rules d) (table-rules T) (type-rules p) (table-rules U) (goes-along device d y)
+      (goes-along protocol p x)
+
   -- the device's type against the protocol's table, which the monitor has
   beside : Safe (type-rules d) (type-rules p) ↔ Safe (type-rules d) (table-rules U)
   beside =
@@ -134,6 +140,24 @@ reports-of-texts protocol device p d x y report r =
       says-fit = (λ h. a .1 (f .0 h), λ h. f .1 (a .0 h));
       says-no-fit = (λ h. b .1 (g .0 h), λ h. g .1 (b .0 h));
     }
+
+pub fewest-of-texts : FewestOfTexts
+fewest-of-texts protocol device p d x y before after r answered =
+    let a = shortest protocol device p d x y in
+    let q = fit-fewest (reads device .table) (reads protocol .table) before after r answered in
+    record {
+      exactly = λ K. (
+        λ h. let z = q .exactly K .0 h in (z .0, z .1, a K (z .1) .1 (z .2)),
+        λ h. q .exactly K .1 (h .0, h .1, a K (h .1) .0 (h .2)),
+      );
+      shown = λ K h e. let z = q .shown K h e in (z .0, z .1, z .2, a K _ .1 (z .3));
+    }
+
+pub reports-fewest-of-texts : ReportsFewestOfTexts
+reports-fewest-of-texts protocol device p d x y report r u =
+    let b = unsafe protocol device p d x y in
+    let z = reports-fewest protocol device report r (is-read protocol p x) (is-read device d y) (b .0 u) in
+    (z .0, z .1, z .2, shortest protocol device p d x y (length (z .0)) _ .1 (z .3))
 
 pub unblamed-of-texts : UnblamedOfTexts
 unblamed-of-texts protocol device p d x y safe sent keeps =

@@ -5,6 +5,7 @@ use mathlib.Core.Logic.{_↔_}
 use mathlib.Core.Bool.{Bool, true, false, cond}
 use mathlib.Core.List.{List, [], _∷_}
 use mathlib.Core.Option.{Option, none, some}
+use Prim.Native.Nat.{ℕ}
 use Rattle.table.specs.Table.{Sort, sends, receives, same-sort}
 use Rattle.table.specs.declared.Party.{Party}
 use Rattle.table.specs.declared.Party.the-variants.{Device, Host}
@@ -12,7 +13,7 @@ use Rattle.message.specs.Message.{Message, read, well-formed}
 use Rattle.message.specs.Rules.{Rules}
 use Rattle.types.proofs.Stands.{Alike, neither, each}
 use Rattle.types.proofs.Agree.{why, Rules-alike}
-use Rattle.fit.specs.Machine.{Standing, running, device-blamed, host-blamed, jammed, Machine, Move, Effect, nothing, forward, halt, from-device, from-host, while-running, arrived, fresh-machine, by-side, effect, does, after, move, play, run, bad, Safe, Unsafe}
+use Rattle.fit.specs.Machine.{Standing, running, device-blamed, host-blamed, jammed, Machine, Move, Effect, nothing, forward, halt, from-device, from-host, while-running, arrived, fresh-machine, by-side, effect, does, after, move, play, run, bad, Safe, Unsafe, Fewest, Shortest}
 
 -- rules do as they do
 pub alike-itself : {A : Type 0} (r : Rules A) → Rules-alike (_≡_ {A = A}) r r
@@ -114,3 +115,13 @@ module _ {A B C D : Type 0} (S : A → B → Type 0) (T : C → D → Type 0) wh
     pub unsafe-like : Unsafe a c ↔ Unsafe b d
     unfolding Unsafe
     unsafe-like = (λ x. (x .0, x .1, sym (ap bad (run-like (x .0))) ∙ x .2), λ x. (x .0, x .1, ap bad (run-like (x .0)) ∙ x .2))
+
+    fewest-like : (K : ℕ) → Fewest a c K ↔ Fewest b d K
+    unfolding Fewest
+    fewest-like K = (λ f vs w h. f vs w (ap bad (run-like vs) ∙ h), λ f vs w h. f vs w (sym (ap bad (run-like vs)) ∙ h))
+
+    pub shortest-like : (K : ℕ) (vs : List Move) → Shortest a c K vs ↔ Shortest b d K vs
+    shortest-like K vs = (
+      λ s. record { many = s .many; real = s .real; ends-badly = sym (ap bad (run-like vs)) ∙ s .ends-badly; fewest = fewest-like K .0 (s .fewest) },
+      λ s. record { many = s .many; real = s .real; ends-badly = ap bad (run-like vs) ∙ s .ends-badly; fewest = fewest-like K .1 (s .fewest) },
+    )

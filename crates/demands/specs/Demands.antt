@@ -14,9 +14,9 @@ use Rattle.types.specs.Types.{type-rules}
 use Rattle.monitor.specs.Conversation.{Sent, Watched}
 use Rattle.monitor.specs.Batches.{Left, WatchedBatches}
 use Rattle.fit.specs.Machine.{Safe, Unsafe}
-use Rattle.fit.specs.Answer.{Answer, fits, fails, Answered}
+use Rattle.fit.specs.Answer.{Answer, fits, fails, Answered, FewestMoves}
 use Rattle.together.specs.Unblamed.{Keeps, Unblamed}
-use Rattle.report.specs.Report.{fit, no-fit, Reported}
+use Rattle.report.specs.Report.{fit, no-fit, Reported, ShowsFewest}
 
 -- s is a text of the type t: at most 8,192 bytes that spell t, and t is legal
 pub record TextOf (s : List ℕ) (t : Ty) : Type 0 where
@@ -62,6 +62,20 @@ abbrev pub ReportsOfTexts : Type 0
 ReportsOfTexts =
     (protocol device : List ℕ) (p d : Ty) → TextOf protocol p → TextOf device d
     → (report : List ℕ) → Reported protocol device report → ReportOfTexts protocol device p d report
+
+-- the fit check fails with K exactly when the shortest failures on the two types' machine have K moves, and then shows one
+abbrev pub FewestOfTexts : Type 0
+FewestOfTexts =
+    (protocol device : List ℕ) (p d : Ty) → TextOf protocol p → TextOf device d → (before after : List ℕ)
+    → (r : Answer) → Answered (reads device .table) (reads protocol .table) before after r
+    → FewestMoves (type-rules d) (type-rules p) (reads device .table) (reads protocol .table) before after r
+
+-- and so does the report
+abbrev pub ReportsFewestOfTexts : Type 0
+ReportsFewestOfTexts =
+    (protocol device : List ℕ) (p d : Ty) → TextOf protocol p → TextOf device d
+    → (report : List ℕ) → Reported protocol device report
+    → ShowsFewest (type-rules d) (type-rules p) (view (reads device .table)) (view (reads protocol .table)) report
 
 -- a device that fits and says only what its description says is never blamed; and every message of the host's that is forwarded is one
 -- that the description takes there

@@ -1,5 +1,5 @@
 -- Where both texts are read, the report says `fit` exactly when no list of moves ends with the device blamed or the machine jammed,
--- and `no fit` exactly when one does.
+-- and `no fit` exactly when one does, with a shortest one.
 -- Assumes nothing.
 use mathlib.Core.Path.{_≡_, refl, sym, ap}
 use mathlib.Core.Logic.{_↔_}
@@ -19,7 +19,8 @@ use Rattle.fit.specs.Fit.{shown-moves}
 use Rattle.fit.proofs.Sound.{Sound}
 use Rattle.fit.proofs.Columns.{view-sound}
 use Rattle.fit.proofs.Demand.{fits-exactly}
-use Rattle.report.specs.Report.{line, fit, no-fit, Compared, says-fit, says-no-fit, ReportsFit, ReportsNoFit}
+use Rattle.fit.proofs.Shown.{shown-length}
+use Rattle.report.specs.Report.{line, fit, no-fit, Compared, says-fit, says-no-fit, ReportsFit, ReportsNoFit, ShowsFewest, ReportsFewest}
 
 -- the two begin with other letters
 apart : {X : Type 0} (d p : Table) (c : ℕ) (ks : List ℕ) (h : Option ℕ) → fit c ≡ no-fit d p ks h → X
@@ -44,6 +45,12 @@ module _ (d p : Table) (sd : Sound d) (sp : Sound p) where
   )
   unsafe-fails text (says-no-fit ks h f l m) = (λ x. (shown-moves d p ks h, f .real, f .ends-badly), λ w. (ks, h, refl))
 
+  shows-fewest : (text : List ℕ) → Compared d p text → ShowsFewest (table-rules d) (table-rules p) d p text
+  unfolding Safe Unsafe run
+  shows-fewest text (says-fit c f n) w = never (w .2) (fits-exactly d p sd sp .0 f (w .0) (w .1))
+  shows-fewest text (says-no-fit ks h f l m) w =
+      (ks, h, refl, record { many = shown-length d p _ ks h; real = f .real; ends-badly = f .ends-badly; fewest = m })
+
 pub reports-fit : ReportsFit
 reports-fit protocol device text r p d =
     safe-fits (view (reads device .table)) (view (reads protocol .table)) (view-sound (reads device .table) (read-sound device d))
@@ -52,4 +59,9 @@ reports-fit protocol device text r p d =
 pub reports-no-fit : ReportsNoFit
 reports-no-fit protocol device text r p d =
     unsafe-fails (view (reads device .table)) (view (reads protocol .table)) (view-sound (reads device .table) (read-sound device d))
+    (view-sound (reads protocol .table) (read-sound protocol p)) text (r .compared p d)
+
+pub reports-fewest : ReportsFewest
+reports-fewest protocol device text r p d =
+    shows-fewest (view (reads device .table)) (view (reads protocol .table)) (view-sound (reads device .table) (read-sound device d))
     (view-sound (reads protocol .table) (read-sound protocol p)) text (r .compared p d)

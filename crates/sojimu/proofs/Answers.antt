@@ -1,6 +1,7 @@
--- The fit check's codes are those of one answer only: a field that is shown high is one of at most four, so its code is not 255.
+-- The fit check's codes are those of one answer only: a field that is shown high is one of at most four, so its code is not 255. Where they
+-- say that it fails, what opens the list is a shortest failure.
 -- Assumes nothing.
-use mathlib.Core.Path.{_≡_, refl, ap, ap₂}
+use mathlib.Core.Path.{_≡_, refl, sym, ap, ap₂, subst}
 use mathlib.Core.Bool.{Bool, true, false, _&&_, false≢true}
 use mathlib.Core.List.{List, [], _∷_}
 use mathlib.Core.Option.{Option, none, some}
@@ -14,10 +15,11 @@ use Rattle.message.specs.Message.{count-of, whole, legal-values, exact, well-fo
 use Rattle.message.proofs.Reading.{whole-parts}
 use Rattle.fit.specs.Machine.{Move, moves}
 use Rattle.fit.specs.Fit.{last-count, field-named}
-use Rattle.fit.specs.Answer.{refused, fits, fails, Failed, Answered}
+use Rattle.fit.specs.Answer.{Answer, refused, fits, fails, Failed, Answered}
+use Rattle.fit.proofs.Fewest.{fit-fewest}
 use Rattle.sojimu.specs.declared.fits.Fit.{Fit}
-use Rattle.sojimu.specs.Codes.{high-code}
-use Rattle.sojimu.specs.Calls.{CodesTell}
+use Rattle.sojimu.specs.Codes.{high-code, fit-codes}
+use Rattle.sojimu.specs.Calls.{CodesTell, ShownCodes, CodesFewest}
 
 few : (bytes : List ℕ) → well-formed bytes ≡ true → count-of bytes ≤ 4
 unfolding well-formed
@@ -59,3 +61,15 @@ codes-tell d p before a b (fits c) (refused q) u v e = absurd (omega (arith, ap 
 codes-tell d p before a b (fits c) (fails K h) u v e = absurd (omega (arith, ap (λ (r : Fit). r .outcome) e))
 codes-tell d p before a b (fails K h) (refused q) u v e = absurd (omega (arith, ap (λ (r : Fit). r .outcome) e))
 codes-tell d p before a b (fails K h) (fits c) u v e = absurd (omega (arith, ap (λ (r : Fit). r .outcome) e))
+
+shown-codes : (d p : Words) (before after : List ℕ) (a : Answer) → Answered d p before after a → fit-codes a .outcome ≡ 1
+    → ShownCodes d p before after (fit-codes a)
+shown-codes d p before after (refused q) x e = absurd (omega (arith, e))
+shown-codes d p before after (fits c) x e = absurd (omega (arith, e))
+shown-codes d p before after (fails K h) x e =
+    let z = fit-fewest d p before after (fails K h) x .shown K h refl in
+    record { numbers = z .0; field = h; many = z .1; high-is = refl; list = z .2; shortest = z .3 }
+
+pub codes-fewest : CodesFewest
+codes-fewest d p before after r c =
+    subst (λ (r : Fit). r .outcome ≡ 1 → ShownCodes d p before after r) (sym (c .codes)) (shown-codes d p before after (c .answer) (c .answered))

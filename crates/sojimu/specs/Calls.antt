@@ -5,9 +5,9 @@ use mathlib.Core.Bool.{Bool, false, _&&_, cond}
 use mathlib.Core.List.{List, [], _∷_, _++_}
 use mathlib.Core.Option.{Option, none, some}
 use Prim.Native.Nat.{ℕ, zero, suc}
-use lib.ListN.{getD}
+use lib.ListN.{length, getD}
 use lib.Dec.{eqb}
-use Rattle.table.specs.View.{Words}
+use Rattle.table.specs.View.{Words, view}
 use Rattle.table.specs.declared.Party.{Party}
 use Rattle.table.specs.declared.Party.the-variants.{Device, Host}
 use Rattle.monitor.specs.declared.State as M
@@ -18,12 +18,16 @@ use Rattle.monitor.specs.Due as D
 use Rattle.monitor.specs.Batch.{Batch, batch-questions, begun}
 use Rattle.monitor.specs.Counts.{Counts, counts-sound, counted-step, counted-turn, counted-due, counted-batch}
 use Rattle.monitor.specs.Warning.{warning}
+use Rattle.message.specs.Make.{opening}
+use Rattle.message.specs.Rules.{table-rules}
+use Rattle.fit.specs.Machine.{Shortest}
+use Rattle.fit.specs.Fit.{shown-moves}
 use Rattle.fit.specs.Answer.{Answer, Answered}
 use Rattle.sojimu.specs.declared.steps.Verdict.{Verdict}
 use Rattle.sojimu.specs.declared.steps.Due.{Due}
 use Rattle.sojimu.specs.declared.batches.Batch as C
 use Rattle.sojimu.specs.declared.fits.Fit.{Fit}
-use Rattle.sojimu.specs.Codes.{code-side, party-code, standing-code, standing-of, state-in, state-bytes, verdict-codes, last-codes, warning-codes, fit-codes}
+use Rattle.sojimu.specs.Codes.{code-side, party-code, standing-code, standing-of, state-in, state-bytes, verdict-codes, last-codes, warning-codes, high-code, fit-codes}
 use denote.Ref.{RefT, now}
 
 -- ---- one step
@@ -143,3 +147,16 @@ CodesWarn =
 abbrev pub CodesTell : Type 0
 CodesTell =
     (d p : Words) (before a b : List ℕ) (x y : Answer) → Answered d p before a x → Answered d p before b y → fit-codes x ≡ fit-codes y → x ≡ y
+
+-- as many entries as `count` says open the list; with the field that `high` says high in the last they are a shortest failure
+pub record ShownCodes (d p : Words) (before after : List ℕ) (r : Fit) : Type 0 where
+  pub numbers : List ℕ
+  pub field : Option ℕ
+  pub many : length numbers ≡ r .count
+  pub high-is : high-code field ≡ r .high
+  pub list : after ≡ opening numbers before
+  pub shortest : Shortest (table-rules (view d)) (table-rules (view p)) (r .count) (shown-moves (view d) (view p) numbers field)
+
+-- where the fit check's codes say that it fails
+abbrev pub CodesFewest : Type 0
+CodesFewest = (d p : Words) (before after : List ℕ) (r : Fit) → Checked d p before after r → r .outcome ≡ 1 → ShownCodes d p before after r
