@@ -216,8 +216,8 @@ struct sojimu_warning {
 };
 
 /* A fit check's answer. fits: `count` is the number of reachable pairs of states. fails: `count` is the number of moves shown,
- * and `high` the field that is high in the last, or SOJIMU_ALL_LOW. refused: `question` is 9 or 17. What does not apply is 0, of
- * `high` SOJIMU_ALL_LOW. */
+ * the fewest that show it, and `high` the field that is high in the last, or SOJIMU_ALL_LOW. refused: `question` is 9 or 17. What
+ * does not apply is 0, of `high` SOJIMU_ALL_LOW. */
 struct sojimu_fit {
     uint32_t outcome, question, count, high;
 };
@@ -320,8 +320,8 @@ static inline struct sojimu_reading sojimu_read(const uint8_t *text, size_t leng
     return reading;
 }
 
-/* The report on a device's text against a protocol's: whether it fits, the moves that show it where it does not, or which text is
- * refused. Its bytes open `out`, the rest of which is unchanged, and its length is the answer. Where `out` does not hold it, the
+/* The report on a device's text against a protocol's: whether it fits, the fewest moves that show it where it does not, or which
+ * text is refused. Its bytes open `out`, the rest of which is unchanged, and its length is the answer. Where `out` does not hold it, the
  * answer is 0 and `out` is unchanged; SOJIMU_REPORT bytes always do. */
 static inline size_t sojimu_report(const uint8_t *protocol, size_t protocol_length, const uint8_t *device, size_t device_length,
                                    uint8_t *out, size_t room)
@@ -523,10 +523,11 @@ static inline struct sojimu_warning sojimu_warning(const struct sojimu_table *ta
 }
 
 /* Whether a described device fits a protocol: no list of moves ends with the device blamed or the two stuck. Asks 9 of the
- * device, 9 of the protocol, 17 of the list (1,024 entries are always enough). Where it fails, the list begins with the fewest
- * moves that show it, each the speaker's branch number (the device's table for the device, the protocol's for the host), every
- * number low, in the last move one field perhaps high; the rest of the list is unchanged. Where it fits or is refused, the whole
- * list is. */
+ * device, 9 of the protocol, 17 of the list (1,024 entries are always enough). Where it fails, the list begins with moves
+ * that show it, each the speaker's branch number (the device's table for the device, the protocol's for the host), every number
+ * low, in the last move one field perhaps high. They are the fewest: every list of moves that ends with the device blamed or
+ * the two stuck, moves that change nothing included, has at least as many; and the same tables have the same list. The rest of
+ * the list is unchanged; where it fits or is refused, the whole list is. */
 static inline struct sojimu_fit sojimu_fit(const struct sojimu_table *device, const struct sojimu_table *protocol, uint16_t *list,
                                            size_t room)
 {

@@ -368,6 +368,26 @@ static void failures(void)
     CHECK(v.outcome == SOJIMU_BLAMED && v.party == SOJIMU_DEVICE && v.reason == SOJIMU_OUT_OF_RANGE && v.field == 0);
 }
 
+/* The list is these two moves, all low, whatever it held before and with whatever room. */
+static void two_moves(const char *device, const char *protocol, uint16_t first, uint16_t second)
+{
+    const struct sojimu_table d = table_of(device), p = table_of(protocol);
+    mark_list();
+    CHECK(fit_is(sojimu_fit(&d, &p, list, SOJIMU_LIST), SOJIMU_FAILS, 0, 2, SOJIMU_ALL_LOW));
+    CHECK(list[0] == first && list[1] == second && marked_from(2));
+    CHECK(fit_is(sojimu_fit(&d, &p, list, d.states * p.states), SOJIMU_FAILS, 0, 2, SOJIMU_ALL_LOW));
+    CHECK(list[0] == first && list[1] == second && marked_from(2));
+}
+
+/* Of two ways to fail the shorter is shown, though the longer stands first in the texts; sorts that differ after two moves, though a
+ * lower pair there fails by a third; and of two shortest lists the one of the lower pair. */
+static void fewest(void)
+{
+    two_moves("+{!A().+{!B().+{!C().end}},!D().+{!E().end}}", "+{!A().+{!B().+{!X().end}},!D().+{!Y().end}}", 3, 4);
+    two_moves("+{!A().+{!B().+{!C().end},!D().end}}", "+{!A().+{!B().+{!X().end},!D().+{!E().end}}}", 0, 3);
+    two_moves("+{!A().+{!B().end},!C().+{!D().end}}", "+{!A().+{!X().end},!C().+{!Y().end}}", 0, 1);
+}
+
 /* The report of two texts is this one, with just enough room; with a byte less nothing changes. */
 static void report_is(const char *protocol, const char *device, const char *text)
 {
@@ -386,6 +406,7 @@ static void reports(void)
     report_is(q, "+{!Ping().&{?Busy().end}}", "no fit 2\nin Ping\nout Pong\njammed\n");
     report_is(q, "+{!Quit().end}", "fit 2\n");
     report_is(P, "+{!Ask(int[0..101]).&{?Ok().end}}", "no fit 1\nin Ask high 0\nblamed\n");
+    report_is("+{!A().+{!B().+{!X().end}},!C().end}", "+{!A().+{!B().+{!D().end}},!C().+{!E().end}}", "no fit 1\nin C\njammed\n");
     report_is("", "end", "protocol refused 3 at 0\n");
     report_is(q, "rec X.X", "device refused 5 at 6\n");
 }
@@ -404,5 +425,6 @@ int main(void)
     due();
     fits();
     failures();
+    fewest();
     return counts();
 }

@@ -15,10 +15,11 @@ pub enum Fitting {
         /// The pairs of states that can be reached, (0, 0) among them.
         pairs: usize,
     },
-    /// It does not: after these moves the device is blamed, or the two are jammed.
+    /// It does not: after these moves the device is blamed, or the two are jammed. They are a shortest such list: every list of
+    /// moves that ends so has at least as many, moves that change nothing included.
     Fails {
         /// How many moves stand in the list: branches of whose turn it is, the device's of its own table, the host's of the
-        /// protocol's. Every number is low, and no list is shorter.
+        /// protocol's. Every number is low.
         moves: usize,
         /// The field that is high in the last move, if one is.
         high: Option<u32>,
@@ -27,7 +28,8 @@ pub enum Fitting {
 
 impl Table {
     /// Does this device fit the protocol? Asks 9 of both, then 17: the list needs device states times protocol states entries.
-    /// Where it does not fit, the first entries of the list become the moves that show it; else the list is unchanged.
+    /// Where it does not fit, the first entries of the list become the fewest moves that show it, for the same tables the same;
+    /// else the list is unchanged.
     ///
     /// ```
     /// use sojimu::{Fitting, Table};

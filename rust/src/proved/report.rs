@@ -5,7 +5,8 @@ use super::ffi;
 /// A buffer of so many bytes holds every report.
 pub const LONGEST_REPORT: usize = 16_384;
 
-/// What the report program prints for two texts: a refused text, `fit` and the pairs met, or `no fit` and the moves that show it.
+/// What the report program prints for two texts: a refused text, `fit` and the pairs met, or `no fit` and the fewest moves that
+/// show it.
 ///
 /// ```
 /// let protocol = b"rec X.+{!Ping().&{?Pong().X},!Quit().end}";
