@@ -1,4 +1,5 @@
-//! Report texts. Which moves are shown is left free: they are played on the document's machine, and must be as many.
+//! Report texts. Which of the shortest lists is shown is left free: the moves are played on the document's machine, and they are those
+//! of the second implementation's rule.
 
 use super::{show, Outcome, Tally};
 use crate::proved::{report, report_into};
@@ -28,8 +29,7 @@ pub fn case(random: &mut Random, tally: &mut Tally) -> Outcome {
         tally.same("report", lossy(&text), lossy(&wanted), show)?;
     } else if let (Ok(device), Ok(protocol)) = (read(&device), read(&protocol)) {
         let shown = again(&lossy(&text), &device, &protocol);
-        let heading = |text: &[u8]| lossy(text).lines().next().map(str::to_string);
-        tally.same("report", (heading(&text), shown), (heading(&wanted), Some(lossy(&text))), show)?;
+        tally.same("report", (lossy(&text), shown), (lossy(&wanted), Some(lossy(&text))), show)?;
     }
 
     let room = if random.one_in(2) { random.below(text.len()) } else { text.len() + random.below(3) };
