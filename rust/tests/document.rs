@@ -1,5 +1,5 @@
-//! Every example of document 01, and those of the requests in document 02 that are built; of requests 4 and 5 every sentence, through
-//! both implementations.
+//! Every example of document 01, and those of the requests in document 02 that are built; of requests 4 and 5 every sentence,
+//! through both implementations.
 
 use sojimu::compare::{self, party, state_codes};
 use sojimu::second::batch::{batch, Batch};
@@ -764,8 +764,8 @@ fn the_dual_keeps_shares() {
 
 // Document 02, request 5: fewest moves in a failure
 
-/// What both show of a device that does not fit: the moves, and the field that is high in the last one. Played on the machine they
-/// show it, and where the tables are small, every list of fewer moves was tried.
+/// What both show of a device that does not fit: the moves, and the field that is high in the last one. Played on the machine
+/// they show it, and where the tables are small, every list of fewer moves was tried.
 fn shown(device: &str, protocol: &str) -> (Vec<u16>, Option<usize>) {
     let read = |text: &str| (sojimu::Table::read(text.as_bytes()).unwrap(), table(text.as_bytes()));
     let ((proved, device), (proved_protocol, protocol)) = (read(device), read(protocol));
@@ -836,8 +836,8 @@ fn one_of_several_shortest_lists() {
     let protocol = "+{!A().+{!C().end},!B().+{!C().end}}";
     assert_eq!(shown(device, protocol), (vec![0, 1], None));
     assert!(several(device, protocol));
-    // After B the device is in its first state again, where it says A or B: B A, B B and A X. Now the lowest pair is (0, 3), and the
-    // lowest branch there A, so that the first move is not the lowest that there is.
+    // After B the device is in its first state again, where it says A or B: B A, B B and A X. Now the lowest pair is (0, 3), and
+    // the lowest branch there A, so that the first move is not the lowest that there is.
     let device = "rec R.+{!A().+{!X().end},!B().R}";
     assert_eq!(shown(device, protocol), (vec![2, 0], None));
     assert!(several(device, protocol));
@@ -910,8 +910,8 @@ fn cycle(more: &[&str]) -> String {
 
 #[test]
 fn lists_of_a_hundred_moves_and_more() {
-    // The device says Z in the last of its 14 states; the protocol allows it in all but the last of its 15, and both begin anew with
-    // it. They are in these two states after a number of moves that is one less than a multiple of 14 and of 15: first 209.
+    // The device says Z in the last of its 14 states; the protocol allows it in all but the last of its 15, and both begin anew
+    // with it. They are in these two states after a number of moves that is one less than a multiple of 14 and of 15: first 209.
     let (mut device, mut protocol) = ([""; 14], [",!Z().X"; 15]);
     (device[13], protocol[14]) = (",!Z().X", "");
     let wanted: Vec<u16> = (0..209).map(|i| i % 14).chain([14]).collect();

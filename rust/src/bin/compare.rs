@@ -5,8 +5,8 @@
 //!     cargo run --release --bin compare -- --seed S --kind K --case C          one case again
 //!
 //! The last line is `N passed, M failed`: a kind passes when the two agree in all of its cases; so does each question, each reason
-//! and whatever else is counted that was met a hundred times, and the run when it made 200,000 comparisons, 20,000 of them of devices
-//! that do not fit, 5,000 of these against every list of fewer moves. The status is 0 only when none failed.
+//! and whatever else is counted that was met a hundred times; and the run when it made 200,000 comparisons, with 20,000 devices
+//! that do not fit, of 5,000 of which every list of fewer moves was tried. The status is 0 only when none failed.
 
 use sojimu::compare::{Batched, Disagreement, Failed, Kind, Named, Shared, Tally, KINDS};
 use std::process::ExitCode;

@@ -1,4 +1,4 @@
-//! Fit checks. Counts of pairs and of moves are compared. Which of the shortest lists is shown is left free: the list is played on the
+//! Fit checks. Counts of pairs and of moves are compared. Which of the shortest lists is shown is left free: it is played on the
 //! document's machine, and it is the one of the second implementation's rule.
 
 use super::both::Both;

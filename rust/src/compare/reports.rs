@@ -1,5 +1,5 @@
-//! Report texts. Which of the shortest lists is shown is left free: the moves are played on the document's machine, and they are those
-//! of the second implementation's rule.
+//! Report texts. Which of the shortest lists is shown is left free: the moves are played on the document's machine, and they are
+//! those of the second implementation's rule.
 
 use super::{show, Outcome, Tally};
 use crate::proved::{report, report_into};

@@ -321,8 +321,8 @@ impl Run<'_> {
         numbers
     }
 
-    /// Given: the device's text, 100, the protocol's, 100, the list's entries. Texts that are refused are empty tables. Is the list
-    /// said to be the only one of its length?
+    /// Given: the device's text, 100, the protocol's, 100, the list's entries. Texts that are refused are empty tables. Is the
+    /// list said to be the only one of its length?
     fn fit(&self, given: &[u64], only: bool) -> Vec<u64> {
         let parts: Vec<&[u64]> = given.split(|&number| number == NO_BYTE).collect();
         let table = |text: &[u64]| self.calls.read(&bytes(text)).unwrap_or(Raw::empty());
@@ -354,8 +354,8 @@ impl Run<'_> {
     }
 }
 
-/// The document's machine says the same of two tables as the fit check, and plays its moves. There are no fewer, and where the list is
-/// said to be the only one of its length, no others that are as few.
+/// The document's machine says the same of two tables as the fit check, and plays its moves. There are no fewer, and where the
+/// list is said to be the only one of its length, no others that are as few.
 fn played(device: &Raw, protocol: &Raw, answer: Answer, list: &[u16], only: bool) {
     let (device, protocol) = (device.table(), protocol.table());
     let small = device.branches.len() + protocol.branches.len() <= 20;

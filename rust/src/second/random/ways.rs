@@ -3,8 +3,8 @@
 use super::{field, fields, label, some_shares, Random};
 use crate::second::table::{Branch, Field, Kind, Label, Sort, Table, MOST_FIELDS, MOST_STATES};
 
-/// A way to a choice of which one branch leads to two states that differ in sort, and another to two of one sort where what is said
-/// is not taken: the first fails with a move less. The way is a chain, or cycles of two lengths that meet there, maybe after
+/// A way to a choice of which one branch leads to two states that differ in sort, and another to two of one sort where what is
+/// said is not taken: the first fails with a move less. The way is a chain, or cycles of two lengths that meet there, maybe after
 /// hundreds of moves. States are numbered in any order, so that either of the two pairs may be the lower one.
 pub fn two_ways_pair(random: &mut Random) -> (Table, Table) {
     if random.one_in(4) {
