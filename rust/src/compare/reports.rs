@@ -6,7 +6,7 @@ use crate::proved::{report, report_into};
 use crate::second::fit::{moves, shows_no_fit};
 use crate::second::machine::play_all;
 use crate::second::monitor::Side;
-use crate::second::random::{any_text, label_of, text_pair, Random};
+use crate::second::random::{any_text, label_of, text_pair, two_ways_texts, Random};
 use crate::second::report as second;
 use crate::second::table::Table;
 use crate::second::text::read;
@@ -19,6 +19,7 @@ pub fn case(random: &mut Random, tally: &mut Tally) -> Outcome {
     let (device, protocol) = match random.below(6) {
         0 => (any_text(random), any_text(random)),
         1 => (any_text(random), text_pair(random).1),
+        2 => two_ways_texts(random),
         _ => text_pair(random),
     };
     let show = || show::bytes("protocol", &protocol) + &show::bytes("device", &device);

@@ -18,6 +18,31 @@ pub fn small_two_ways_pair(random: &mut Random) -> (Table, Table) {
     after_chain(random, 3, 1)
 }
 
+/// The texts of such a pair: a chain of choices with one branch each, then the two branches in either order.
+pub fn two_ways_texts(random: &mut Random) -> (Vec<u8>, Vec<u8>) {
+    let (mut device, mut protocol) = (String::new(), String::new());
+    let way = random.below(12);
+    for _ in 0..way {
+        let (open, name) = (opening(random), *random.pick(&["A", "B0", "Ask", "Abcdefgh"]));
+        device += &format!("{open}{name}().");
+        protocol += &format!("{open}{name}().");
+    }
+    let mut unlike = ["end", "+{!U().end}", "&{?U().end}"];
+    random.shuffle(&mut unlike);
+    let wrong = *random.pick(&[["+{!V().end,!W().end}", "+{!V().end}"], ["&{?V().end}", "&{?V().end,?W().end}"]]);
+    let (open, unlike_first) = (opening(random), random.one_in(2));
+    for (text, unlike, wrong) in [(&mut device, unlike[0], wrong[0]), (&mut protocol, unlike[1], wrong[1])] {
+        let (one, other) = if unlike_first { (unlike, wrong) } else { (wrong, unlike) };
+        *text += &format!("{open}A().{one},{}B().{other}{}", &open[2..], "}".repeat(way + 1));
+    }
+    (device.into_bytes(), protocol.into_bytes())
+}
+
+/// How a choice of either sort begins.
+fn opening(random: &mut Random) -> &'static str {
+    *random.pick(&["+{!", "&{?"])
+}
+
 /// A branch of its own label, which is none of those given; owner and target are yet to come.
 fn branch(random: &mut Random, but: &[Label], most_fields: usize) -> Branch {
     Branch { owner: 0, label: label(random, but), fields: fields(random, most_fields), share: None, target: 0 }
