@@ -15,13 +15,13 @@ pub enum Failed {
     AtOnce,
     /// Lists of a hundred moves and more.
     Long,
-    /// A last move of as few moves is forwarded, and the two states that it leads to differ in sort.
+    /// A list of as few moves ends with one that is forwarded, to two states that differ in sort.
     Arrival,
-    /// A last move of as few moves blames the device.
+    /// A list of as few moves ends with the device blamed.
     Blame,
-    /// A last move of as few moves is one that the device does not take.
+    /// A list of as few moves ends with a message that the device does not take.
     NotTaken,
-    /// Both of the first kind and of one of the other two there is a last move.
+    /// One list of as few moves ends in the first of these ways, another in one of the other two.
     BothWays,
     /// Another list has as few moves.
     Several,
