@@ -1,14 +1,16 @@
-//! Every example of document 01, and those of the requests in document 02 that are built; of request 4 every sentence, through both
-//! implementations.
+//! Every example of document 01, and those of the requests in document 02 that are built; of requests 4 and 5 every sentence,
+//! through both implementations.
 
 use sojimu::compare::{self, party, state_codes};
 use sojimu::second::batch::{batch, Batch};
+use sojimu::second::brute::explore;
 use sojimu::second::fit::{fit, shows_no_fit, Answer};
 use sojimu::second::machine::{self, Machine, Move};
 use sojimu::second::message;
 use sojimu::second::monitor::{awaited, due, step, Part, Reason, Side, Standing, State, Verdict};
 use sojimu::second::random::label_of;
 use sojimu::second::report::{report, report_in};
+use sojimu::second::shortest::{search, Way};
 use sojimu::second::table::{dual, sound, sound_at, Kind, Raw, Sort, Table};
 use sojimu::second::text::read;
 use sojimu::second::warning::{estimate, warning, Told};
@@ -758,6 +760,193 @@ fn the_dual_keeps_shares() {
     // The choice is the host's then.
     let talk = Talk { state: fresh(&once), second: once, proved };
     assert_eq!(talk.warning(0).unwrap().sender, Side::Host);
+}
+
+// Document 02, request 5: fewest moves in a failure
+
+/// What both show of a device that does not fit: the moves, and the field that is high in the last one. Played on the machine
+/// they show it, and where the tables are small, every list of fewer moves was tried.
+fn shown(device: &str, protocol: &str) -> (Vec<u16>, Option<usize>) {
+    let read = |text: &str| (sojimu::Table::read(text.as_bytes()).unwrap(), table(text.as_bytes()));
+    let ((proved, device), (proved_protocol, protocol)) = (read(device), read(protocol));
+    let mut list = [0xEEEE; sojimu::LONGEST_LIST];
+    let sojimu::Fitting::Fails { moves, high } = proved.fit(&proved_protocol, &mut list) else {
+        panic!("it fits");
+    };
+    let mut wanted = [0xEEEE; sojimu::LONGEST_LIST];
+    let high = high.map(|field| field as usize);
+    assert_eq!(fit(&device, &protocol, &mut wanted), Answer::NoFit(moves, high));
+    assert_eq!(list, wanted);
+    assert!(shows_no_fit(&device, &protocol, &list[..moves], high));
+    assert_eq!(search(&device, &protocol).fewest(), Some(moves));
+    if device.branches.len() + protocol.branches.len() <= 30 {
+        assert_eq!(explore(&device, &protocol).fewest, moves);
+    }
+    (list[..moves].to_vec(), high)
+}
+
+/// Have several lists as few moves?
+fn several(device: &str, protocol: &str) -> bool {
+    search(&table(device.as_bytes()), &table(protocol.as_bytes())).shown().unwrap().several
+}
+
+#[test]
+fn a_short_way_that_is_written_last() {
+    // Blamed for C after A and B, or for E after D.
+    let device = "+{!A().+{!B().+{!C().end}},!D().+{!E().end}}";
+    let protocol = "+{!A().+{!B().+{!X().end}},!D().+{!Y().end}}";
+    assert_eq!(shown(device, protocol), (vec![3, 4], None));
+    assert!(!several(device, protocol));
+    // The host's, by the protocol's numbers: X and Y are not taken.
+    let turned = |text: &str| text.replace('+', "&").replace('!', "?");
+    assert_eq!(shown(&turned(device), &turned(protocol)), (vec![3, 4], None));
+    // Both sides: A B C H, H not taken; or E F G, G blamed. E and G are the device's numbers, F is the protocol's.
+    let device = "+{!A().&{?B().+{!C().&{?D().end}}},!E().&{?F().+{!G().end}}}";
+    let protocol = "+{!A().&{?B().+{!C().&{?D().end,?H().end}}},!E().&{?F().+{!I().end}}}";
+    assert_eq!(shown(device, protocol), (vec![4, 6, 6], None));
+}
+
+#[test]
+fn sorts_that_differ_on_arrival() {
+    // After A B (2, 2), where C is blamed by a third move; after D E (5, 5), which is jammed with the second.
+    let device = "+{!A().+{!B().+{!C().end}},!D().+{!E().&{?F().end}}}";
+    let protocol = "+{!A().+{!B().+{!X().end}},!D().+{!E().+{!G().end}}}";
+    assert_eq!(shown(device, protocol), (vec![3, 4], None));
+    assert!(!several(device, protocol));
+    // The same, the jammed pair being the lower one: A B, not D E F.
+    let device = "+{!A().+{!B().&{?C().end}},!D().+{!E().+{!F().end}}}";
+    let protocol = "+{!A().+{!B().+{!C().end}},!D().+{!E().+{!G().end}}}";
+    assert_eq!(shown(device, protocol), (vec![0, 1], None));
+    // At an end, after a move of the host's: B, not A X.
+    assert_eq!(shown("&{?A().&{?C().end},?B().end}", "&{?A().&{?X().end},?B().+{!D().end}}"), (vec![2], None));
+}
+
+#[test]
+fn before_any_move() {
+    for (device, protocol) in [("end", "+{!A().end}"), ("+{!A().end}", "&{?A().end}"), ("&{?A().end}", "end")] {
+        assert_eq!(shown(device, protocol), (vec![], None));
+        assert_eq!(search(&table(device.as_bytes()), &table(protocol.as_bytes())).ways, [Way::AtOnce]);
+    }
+}
+
+#[test]
+fn one_of_several_shortest_lists() {
+    // A X and B X. The last move is made at the lowest pair: (1, 1), after A, and not (3, 3), after B.
+    let device = "+{!A().+{!X().end},!B().+{!X().end}}";
+    let protocol = "+{!A().+{!C().end},!B().+{!C().end}}";
+    assert_eq!(shown(device, protocol), (vec![0, 1], None));
+    assert!(several(device, protocol));
+    // After B the device is in its first state again, where it says A or B: B A, B B and A X. Now the lowest pair is (0, 3), and
+    // the lowest branch there A, so that the first move is not the lowest that there is.
+    let device = "rec R.+{!A().+{!X().end},!B().R}";
+    assert_eq!(shown(device, protocol), (vec![2, 0], None));
+    assert!(several(device, protocol));
+    // Of two pairs with the device's first state, (0, 1) after B and (0, 3) after A: B A; not B B, A A or A B.
+    assert_eq!(shown("rec R.+{!A().R,!B().R}", "+{!B().+{!C().end},!A().+{!C().end}}"), (vec![1, 0], None));
+    // C A C and C B C: A and B lead from (1, 1) to (0, 1), and A is the lower one.
+    let (device, protocol) = ("rec R.+{!C().+{!A().R,!B().R}}", "+{!C().rec Q.+{!A().Q,!B().Q}}");
+    assert_eq!(shown(device, protocol), (vec![0, 1, 0], None));
+    assert!(several(device, protocol));
+}
+
+#[test]
+fn both_ways_of_failing() {
+    let ways = |device: &str, protocol: &str| search(&table(device.as_bytes()), &table(protocol.as_bytes())).ways;
+    // A is forwarded and jams, B is blamed.
+    let (device, protocol) = ("+{!A().end,!B().end}", "+{!A().&{?C().end}}");
+    assert_eq!(shown(device, protocol), (vec![0], None));
+    assert_eq!(ways(device, protocol), [Way::Arrival, Way::Blame]);
+    // A C is forwarded and jams, B E is not taken.
+    let (device, protocol) = ("&{?A().&{?C().end},?B().&{?C().end}}", "&{?A().&{?C().+{!D().end}},?B().&{?E().end}}");
+    assert_eq!(shown(device, protocol), (vec![0, 1], None));
+    assert_eq!(ways(device, protocol), [Way::Arrival, Way::NotTaken]);
+    // With its number low the one message is forwarded and jams, with its number high it is blamed.
+    let (device, protocol) = ("+{!A(int[0..9]).end}", "+{!A(int[0..8]).&{?C().end}}");
+    assert_eq!(shown(device, protocol), (vec![0], Some(0)));
+    assert_eq!(ways(device, protocol), [Way::Arrival, Way::Blame]);
+}
+
+#[test]
+fn the_field_that_is_high() {
+    let sends = |fields: &str| format!("+{{!A({fields}).end}}");
+    let high = |device: &str, protocol: &str| shown(&sends(device), &sends(protocol)).1;
+    assert_eq!(high("int[0..9],int[0..9]", "int[0..9],int[0..8]"), Some(1));
+    // The first field that tells: by its high end, or by its low end.
+    assert_eq!(high("int[0..9],int[0..9]", "int[0..8],int[1..9]"), Some(0));
+    assert_eq!(high("int[0..9],int[0..9]", "int[1..9],int[0..8]"), None);
+    assert_eq!(high("int[0..9],int[0..9]", "int[0..8],flag[0..1]"), Some(0));
+    assert_eq!(high("int[0..9],int[0..9]", "text[0..8],int[0..8]"), None);
+    // Another number of fields tells before any of them.
+    assert_eq!(high("int[0..9]", "int[0..8],int[0..9]"), None);
+    // Nothing of the range is allowed: its high end is above.
+    assert_eq!(high("int[5..9]", "int[0..4]"), Some(0));
+}
+
+#[test]
+fn moves_that_change_nothing_count() {
+    // P, with Quit not allowed after the first Ask: Ask, Ok, Quit.
+    let device = "rec X.+{!Ask(int[0..100]).&{?Ok().X},!Quit().end}";
+    let protocol = "+{!Ask(int[0..100]).&{?Ok().+{!Ask(int[0..100]).&{?Ok().end}}},!Quit().end}";
+    assert_eq!(shown(device, protocol), (vec![0, 1, 2], None));
+    // Out of turn the host's Ok changes nothing: a list with it is longer.
+    let ok = |text: &str| message::made(&table(text.as_bytes()).branches[1], None);
+    let mut moves: Vec<Move> = [0, 2].map(|b| message::made(&table(device.as_bytes()).branches[b], None)).map(by_device).into();
+    moves.insert(1, Move { side: Side::Host, message: ok(protocol) });
+    moves.insert(0, Move { side: Side::Host, message: ok(protocol) });
+    let (left, forwarded) = machine::play_all(&table(device.as_bytes()), &table(protocol.as_bytes()), &moves);
+    assert_eq!((left.standing, forwarded), (machine::Standing::DeviceBlamed, vec![false, true, true, false]));
+}
+
+fn by_device(message: message::Message) -> Move {
+    Move { side: Side::Device, message }
+}
+
+/// States in a cycle, each with A to the next and what else it has, from the outermost to the innermost.
+fn cycle(more: &[&str]) -> String {
+    let open = "+{!A().".repeat(more.len());
+    let rest: String = more.iter().rev().map(|more| format!("{more}}}")).collect();
+    format!("rec X.{open}X{rest}")
+}
+
+#[test]
+fn lists_of_a_hundred_moves_and_more() {
+    // The device says Z in the last of its 14 states; the protocol allows it in all but the last of its 15, and both begin anew
+    // with it. They are in these two states after a number of moves that is one less than a multiple of 14 and of 15: first 209.
+    let (mut device, mut protocol) = ([""; 14], [",!Z().X"; 15]);
+    (device[13], protocol[14]) = (",!Z().X", "");
+    let wanted: Vec<u16> = (0..209).map(|i| i % 14).chain([14]).collect();
+    assert_eq!(shown(&cycle(&device), &cycle(&protocol)), (wanted, None));
+    assert!(!several(&cycle(&device), &cycle(&protocol)));
+    // Of 9 and 13: one less than 117. Z leads to an end and a choice then, and V to the device's first state and one that only
+    // allows R, which is a move more. Elsewhere Z leads to ends, and with V both begin anew.
+    let (mut device, mut protocol) = ([""; 9], [",!V().X,!Z().end"; 13]);
+    device[8] = ",!V().X,!Z().end";
+    protocol[12] = ",!V().+{!R().X},!Z().&{?W().end}";
+    let wanted: Vec<u16> = (0..116).map(|i| i % 9).chain([10]).collect();
+    assert_eq!(shown(&cycle(&device), &cycle(&protocol)), (wanted, None));
+    // In its first state, and the protocol in its sixth: 18 is twice 9, and 5 more than 13.
+    let (mut device, mut protocol) = ([""; 9], [",!Z().X"; 13]);
+    (device[0], protocol[5]) = (",!Z().X", "");
+    let wanted: Vec<u16> = (0..18).map(|i| i % 9).chain([9]).collect();
+    assert_eq!(shown(&cycle(&device), &cycle(&protocol)), (wanted, None));
+}
+
+#[test]
+fn reports_of_the_fewest_moves() {
+    let same = |protocol: &str, device: &str, wanted: &str| {
+        assert_eq!(String::from_utf8(report(protocol.as_bytes(), device.as_bytes())).unwrap(), wanted);
+        assert_eq!(String::from_utf8(sojimu::report(protocol.as_bytes(), device.as_bytes())).unwrap(), wanted);
+    };
+    let device = "+{!A().+{!B().+{!C().end}},!D().+{!E().&{?F().end}}}";
+    let protocol = "+{!A().+{!B().+{!X().end}},!D().+{!E().+{!G().end}}}";
+    same(protocol, device, "no fit 2\nin D\nin E\njammed\n");
+    let device = "+{!A().&{?B().+{!C().&{?D().end}}},!E().&{?F().+{!G().end}}}";
+    let protocol = "+{!A().&{?B().+{!C().&{?D().end,?H().end}}},!E().&{?F().+{!I().end}}}";
+    same(protocol, device, "no fit 3\nin E\nout F\nin G\nblamed\n");
+    let (mut device, mut protocol) = ([""; 14], [",!Z().X"; 15]);
+    (device[13], protocol[14]) = (",!Z().X", "");
+    let wanted = format!("no fit 210\n{}in Z\nblamed\n", "in A\n".repeat(209));
+    same(&cycle(&protocol), &cycle(&device), &wanted);
 }
 
 // Device and monitor together

@@ -5,9 +5,11 @@ use sojimu::second::batch::{batch, Batch};
 use sojimu::second::brute::explore;
 use sojimu::second::fit::{fit, right, shows_no_fit, Answer};
 use sojimu::second::machine::{saying, says};
+use sojimu::second::mistaken::{depth_first, sorts_late};
 use sojimu::second::monitor::{due, judge, state_sound, step, Side, Standing, State, Verdict, MOST_COUNTED};
 use sojimu::second::random::*;
 use sojimu::second::report::report;
+use sojimu::second::shortest::{search, Way};
 use sojimu::second::substituted::{means, refused};
 use sojimu::second::table::{dual, sound, Raw, Sort, Table};
 use sojimu::second::tree::{split, tree};
@@ -471,6 +473,7 @@ fn the_fit_check_and_the_machine() {
         let mut random = Random::new(seed);
         let (device, protocol) = table_pair(&mut random, 5, 7);
         let found = explore(&device, &protocol);
+        assert_eq!(search(&device, &protocol).fewest(), (!found.safe).then_some(found.fewest), "seed {seed}");
         let product = device.states.len() * protocol.states.len();
         let room = product + random.below(3);
         let mut list = vec![0xEEEE; room];
@@ -524,6 +527,36 @@ fn cycles_fail_late_and_raised_ranges_high() {
     }
     println!("fitting {fitting}, by at most {moves_at_most} moves, with one high {highs}");
     assert!(fitting > 50 && moves_at_most > 500 && highs > 50);
+}
+
+#[test]
+fn the_fewest_moves() {
+    let (mut late, mut deep, mut both, mut several, mut long) = (0, 0, 0, 0, 0);
+    for seed in 0..rounds(1000) {
+        let mut random = Random::new(seed);
+        let small = random.one_in(2);
+        let (device, protocol) = if small { small_two_ways_pair(&mut random) } else { two_ways_pair(&mut random) };
+        assert!(sound(&device) && sound(&protocol), "seed {seed}");
+        let found = search(&device, &protocol);
+        let fewest = found.fewest().unwrap();
+        let shown = found.shown().unwrap();
+        assert_eq!(shown.list.len(), fewest, "seed {seed}");
+        assert!(shows_no_fit(&device, &protocol, &shown.list, shown.high), "seed {seed}");
+        if small {
+            assert_eq!(explore(&device, &protocol).fewest, fewest, "seed {seed}");
+        }
+        // What the mistaken searches find fails, too.
+        let mistaken = [sorts_late(&device, &protocol), depth_first(&device, &protocol)].map(Option::unwrap);
+        assert!(mistaken[0] == fewest || mistaken[0] == fewest + 1, "seed {seed}");
+        assert!(mistaken[1] >= fewest, "seed {seed}");
+        late += usize::from(mistaken[0] > fewest);
+        deep += usize::from(mistaken[1] > fewest);
+        both += usize::from(found.ways.contains(&Way::Arrival) && found.ways.len() > 1);
+        several += usize::from(shown.several);
+        long += usize::from(fewest >= 100);
+    }
+    println!("late {late}, deep {deep}, both {both}, several {several}, of a hundred moves and more {long}");
+    assert!(late > 200 && deep > 200 && both > 50 && several > 50 && long > 50);
 }
 
 #[test]

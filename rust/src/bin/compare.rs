@@ -5,10 +5,10 @@
 //!     cargo run --release --bin compare -- --seed S --kind K --case C          one case again
 //!
 //! The last line is `N passed, M failed`: a kind passes when the two agree in all of its cases; so does each question, each reason
-//! and whatever else is counted that was met a hundred times, and the run when it made 200,000 comparisons. The status is 0 only
-//! when none failed.
+//! and whatever else is counted that was met a hundred times; and the run when it made 200,000 comparisons, with 20,000 devices
+//! that do not fit, of 5,000 of which every list of fewer moves was tried. The status is 0 only when none failed.
 
-use sojimu::compare::{Batched, Disagreement, Kind, Named, Shared, Tally, KINDS};
+use sojimu::compare::{Batched, Disagreement, Failed, Kind, Named, Shared, Tally, KINDS};
 use std::process::ExitCode;
 use std::time::Instant;
 
@@ -18,6 +18,10 @@ const SEED: u64 = 1;
 const OFTEN: u64 = 100;
 /// How many comparisons a whole run must make.
 const ENOUGH: u64 = 200_000;
+/// How many devices that do not fit a whole run must compare.
+const FAILING: u64 = 20_000;
+/// Of these, of how many every list of fewer moves must have been tried.
+const EXPLORED: u64 = 5_000;
 /// How many disagreements of a kind are shown.
 const SHOWN: usize = 3;
 
@@ -130,12 +134,14 @@ fn demands(tally: &Tally) -> Vec<(String, u64, u64)> {
     often("wide words".into(), tally.wide);
     often("strange".into(), tally.strange);
     often("fits".into(), tally.fits);
-    often("fails".into(), tally.fails);
     often("by a high one".into(), tally.high);
     often("most moves".into(), tally.most_moves as u64);
     Named::ALL.into_iter().zip(tally.named).for_each(|(what, count)| often(what.into(), count));
     Batched::ALL.into_iter().zip(tally.batched).for_each(|(what, count)| often(what.into(), count));
     Shared::ALL.into_iter().zip(tally.shared).for_each(|(what, count)| often(what.into(), count));
+    Failed::ALL.into_iter().zip(tally.failed).for_each(|(what, count)| often(what.into(), count));
+    all.push(("fails".into(), tally.fails, FAILING));
+    all.push(("fails, tried".into(), tally.explored, EXPLORED));
     all.push(("comparisons".into(), tally.comparisons, ENOUGH));
     all
 }

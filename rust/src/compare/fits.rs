@@ -1,16 +1,22 @@
-//! Fit checks. Counts of pairs and of moves are compared; which moves is left free, so they are played on the document's machine.
+//! Fit checks. Counts of pairs and of moves are compared. Which of the shortest lists is shown is left free: it is played on the
+//! document's machine, and it is the one of the second implementation's rule.
 
 use super::both::Both;
 use super::names::has;
-use super::{show, Named, Outcome, Shared, Tally};
+use super::{failures, show, Named, Outcome, Shared, Tally};
 use crate::proved::{ffi, Fitting, Question};
 use crate::second::brute::explore;
 use crate::second::fit::{fit, shows_no_fit, Answer};
-use crate::second::random::{cycle_pair, damaged_table, named_pair, raised, table_pair, with_noise, Random, COLUMNS};
+use crate::second::random::{
+    cycle_pair, damaged_table, named_pair, raised, small_two_ways_pair, table_pair, two_ways_pair, with_noise, Random, COLUMNS,
+};
 use crate::second::table::{Raw, Table};
 
 /// A list's entries before the call.
 const UNTOUCHED: u16 = 0xEEEE;
+/// Those of the list that a second call is given, which also has so many more.
+const OTHER: u16 = 0x0505;
+const MORE: usize = 7;
 
 /// Small tables, whose machine is explored whole: fitting or not, pairs, and the fewest moves.
 pub fn small(random: &mut Random, tally: &mut Tally) -> Outcome {
@@ -38,6 +44,7 @@ fn explored(answer: Fitting, device: &Both, protocol: &Both, tally: &mut Tally) 
         // The exploration goes on after a failure, and so meets pairs that the check need not.
         Fitting::Fails { moves, .. } => (false, moves, found.pairs),
     };
+    tally.explored += u64::from(!explored.0);
     tally.same("fit, explored", explored, (found.safe, found.fewest, found.pairs), || show_pair(device, protocol))
 }
 
@@ -52,6 +59,19 @@ pub fn large(random: &mut Random, tally: &mut Tally) -> Outcome {
 pub fn long(random: &mut Random, tally: &mut Tally) -> Outcome {
     let (device, protocol) = cycle_pair(random);
     pair(random, &device, &protocol, tally).map(drop)
+}
+
+/// A way, maybe a long one, to a pair from which one move jams the two on arrival, and another leads to a pair that fails then.
+pub fn two_ways(random: &mut Random, tally: &mut Tally) -> Outcome {
+    let (device, protocol) = two_ways_pair(random);
+    pair(random, &device, &protocol, tally).map(drop)
+}
+
+/// The same of small tables, whose machine is explored whole.
+pub fn small_two_ways(random: &mut Random, tally: &mut Tally) -> Outcome {
+    let (device, protocol) = small_two_ways_pair(random);
+    let answer = pair(random, &device, &protocol, tally)?;
+    explored(answer, &Both::of(&Raw::of(&device)), &Both::of(&Raw::of(&protocol)), tally)
 }
 
 /// A pair of tables; now and then the device has a range that reaches too high, or not high enough.
@@ -83,49 +103,49 @@ fn pair(random: &mut Random, device: &Table, protocol: &Table, tally: &mut Tally
     check(&device, &protocol, product + random.below(3), tally)
 }
 
-/// The fit check through both. Of a failing list: as many moves, and on the machine they show that the device does not fit. What
-/// the list had beyond them is unchanged.
+/// The fit check through both. Of a failing list: the same moves, and on the machine they show that the device does not fit. What
+/// the list had beyond them is unchanged. What it had before tells nothing: a second call, with another list, shows the same.
 fn check(device: &Both, protocol: &Both, room: usize, tally: &mut Tally) -> Result<Fitting, String> {
-    let (mut list, mut again) = (vec![UNTOUCHED; room], vec![UNTOUCHED; room]);
+    let mut list = vec![UNTOUCHED; room];
     let answer = device.proved.fit(&protocol.proved, &mut list);
+    let (proved, moves) = match answer {
+        Fitting::Refused(Question(number)) => (Answer::Refused(number), 0),
+        Fitting::Fits { pairs } => (Answer::Fits(pairs), 0),
+        Fitting::Fails { moves, high } => (Answer::NoFit(moves, high.map(|field| field as usize)), moves),
+    };
+    let more = if proved == Answer::Refused(17) { 0 } else { MORE };
+    let mut again = vec![OTHER; room + more];
     let given = ffi::fit(&device.proved, &protocol.proved, &mut again);
-    let (proved, high) = match answer {
-        Fitting::Refused(Question(number)) => (Answer::Refused(number), None),
-        Fitting::Fits { pairs } => (Answer::Fits(pairs), None),
-        Fitting::Fails { moves, high } => (Answer::NoFit(moves, None), high),
-    };
-    let second = match fit(&device.second, &protocol.second, &mut vec![0; room]) {
-        Answer::NoFit(moves, _) => Answer::NoFit(moves, None),
-        other => other,
-    };
+
+    let mut wanted = vec![UNTOUCHED; room];
+    let second = fit(&device.second, &protocol.second, &mut wanted);
+    let mut wanted_again = vec![OTHER; room + more];
     // The machine is one of sound tables.
-    let (moves, shown) = match (proved, second) {
-        (Answer::NoFit(moves, _), Answer::NoFit(..)) => {
-            let high = high.map(|field| field as usize);
-            (moves, shows_no_fit(&device.second, &protocol.second, &list[..moves.min(room)], high))
-        }
-        _ => (0, true),
-    };
-    let untouched = list.iter().skip(moves).all(|&entry| entry == UNTOUCHED);
+    let mut shown = true;
+    if let (Answer::NoFit(_, high), Answer::NoFit(fewest, _)) = (proved, second) {
+        wanted_again[..fewest].copy_from_slice(&wanted[..fewest]);
+        shown = shows_no_fit(&device.second, &protocol.second, &list[..moves.min(room)], high);
+        failures::count(&device.second, &protocol.second, tally);
+    }
     count(answer, tally);
     let shared = [device, protocol].iter().any(|both| both.second.branches.iter().any(|branch| branch.share.is_some()));
     tally.share(Shared::Fits, shared && matches!(answer, Fitting::Fits { .. }));
     tally.share(Shared::Fails, shared && matches!(answer, Fitting::Fails { .. }));
-    let wanted = (second, true, true, codes(second, high), &list);
-    tally.same("fit", (proved, shown, untouched, given, &again), wanted, || {
+    let wanted = (second, true, wanted, codes(second), wanted_again);
+    tally.same("fit", (proved, shown, list, given, again), wanted, || {
         format!("room {room}, {answer:?}\n{}", show_pair(device, protocol))
     })?;
     Ok(answer)
 }
 
 /// The answer in the numbers that it is given back in: what does not apply is 0, and where no field is high, 255.
-fn codes(answer: Answer, high: Option<u32>) -> ffi::Fit {
-    let (outcome, question, count) = match answer {
-        Answer::Fits(pairs) => (0, 0, pairs as u32),
-        Answer::NoFit(moves, _) => (1, 0, moves as u32),
-        Answer::Refused(question) => (2, question.into(), 0),
+fn codes(answer: Answer) -> ffi::Fit {
+    let (outcome, question, count, high) = match answer {
+        Answer::Fits(pairs) => (0, 0, pairs, None),
+        Answer::NoFit(moves, high) => (1, 0, moves, high),
+        Answer::Refused(question) => (2, question.into(), 0, None),
     };
-    ffi::Fit { outcome, question, count, high: high.unwrap_or(255) }
+    ffi::Fit { outcome, question, count: count as u32, high: high.map_or(255, |field| field as u32) }
 }
 
 fn count(answer: Fitting, tally: &mut Tally) {

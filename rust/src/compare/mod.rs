@@ -3,12 +3,13 @@
 //! A comparison is one call put through both, with everything that comes of it: answer, state, every byte of a lent buffer; of the
 //! proved code both what the wrapper says and each number of what the library gives back. What is compared follows from seed,
 //! kind and case number alone, so that a disagreement can be shown again by its three names. Where document 01 leaves the answer
-//! free, the moves of a failing fit, they are played on the document's machine instead.
+//! free, the moves of a failing fit, they are played on the document's machine, too.
 
 mod batches;
 mod both;
 mod conversations;
 mod endings;
+mod failures;
 mod fits;
 mod labels;
 mod messages;
@@ -24,6 +25,7 @@ mod warnings;
 
 pub use both::{batch, party, state, state_after, state_codes, verdict, warning};
 pub use endings::Batched;
+pub use failures::Failed;
 pub use names::Named;
 pub use shares::Shared;
 pub use tally::Tally;
@@ -43,7 +45,7 @@ pub struct Kind {
 }
 
 /// Every kind of comparison.
-pub const KINDS: [Kind; 15] = [
+pub const KINDS: [Kind; 17] = [
     Kind { name: "texts", cases: 100_000, run: texts::case },
     Kind { name: "tables", cases: 1_600, run: tables::case },
     Kind { name: "messages", cases: 12_000, run: messages::case },
@@ -57,6 +59,8 @@ pub const KINDS: [Kind; 15] = [
     Kind { name: "small-fits", cases: 21_000, run: fits::small },
     Kind { name: "large-fits", cases: 4_000, run: fits::large },
     Kind { name: "long-fits", cases: 2_200, run: fits::long },
+    Kind { name: "two-ways", cases: 6_000, run: fits::two_ways },
+    Kind { name: "small-two-ways", cases: 4_000, run: fits::small_two_ways },
     Kind { name: "text-fits", cases: 4_000, run: fits::of_texts },
     Kind { name: "reports", cases: 6_000, run: reports::case },
 ];

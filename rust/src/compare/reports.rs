@@ -1,11 +1,12 @@
-//! Report texts. Which moves are shown is left free: they are played on the document's machine, and must be as many.
+//! Report texts. Which of the shortest lists is shown is left free: the moves are played on the document's machine, and they are
+//! those of the second implementation's rule.
 
 use super::{show, Outcome, Tally};
 use crate::proved::{report, report_into};
 use crate::second::fit::{moves, shows_no_fit};
 use crate::second::machine::play_all;
 use crate::second::monitor::Side;
-use crate::second::random::{any_text, label_of, text_pair, Random};
+use crate::second::random::{any_text, label_of, text_pair, two_ways_texts, Random};
 use crate::second::report as second;
 use crate::second::table::Table;
 use crate::second::text::read;
@@ -18,6 +19,7 @@ pub fn case(random: &mut Random, tally: &mut Tally) -> Outcome {
     let (device, protocol) = match random.below(6) {
         0 => (any_text(random), any_text(random)),
         1 => (any_text(random), text_pair(random).1),
+        2 => two_ways_texts(random),
         _ => text_pair(random),
     };
     let show = || show::bytes("protocol", &protocol) + &show::bytes("device", &device);
@@ -28,8 +30,7 @@ pub fn case(random: &mut Random, tally: &mut Tally) -> Outcome {
         tally.same("report", lossy(&text), lossy(&wanted), show)?;
     } else if let (Ok(device), Ok(protocol)) = (read(&device), read(&protocol)) {
         let shown = again(&lossy(&text), &device, &protocol);
-        let heading = |text: &[u8]| lossy(text).lines().next().map(str::to_string);
-        tally.same("report", (heading(&text), shown), (heading(&wanted), Some(lossy(&text))), show)?;
+        tally.same("report", (lossy(&text), shown), (lossy(&wanted), Some(lossy(&text))), show)?;
     }
 
     let room = if random.one_in(2) { random.below(text.len()) } else { text.len() + random.below(3) };

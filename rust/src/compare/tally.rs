@@ -1,6 +1,6 @@
 //! What was compared.
 
-use super::{Batched, Named, Outcome, Shared};
+use super::{Batched, Failed, Named, Outcome, Shared};
 use crate::proved::{Question, Verdict};
 use crate::second::table::LABEL_BYTES;
 use std::fmt::Debug;
@@ -34,7 +34,9 @@ pub struct Tally {
     pub fits: u64,
     /// Devices that do not.
     pub fails: u64,
-    /// Of these, such with a field that is high in the last move.
+    /// Of these, such of which every list of fewer moves was tried.
+    pub explored: u64,
+    /// Such with a field that is high in the last move.
     pub high: u64,
     /// The most moves that it took to show that one does not.
     pub most_moves: usize,
@@ -44,6 +46,8 @@ pub struct Tally {
     pub batched: [u64; Batched::ALL.len()],
     /// What came of shares, counts and warnings, in the order of [`Shared`].
     pub shared: [u64; Shared::ALL.len()],
+    /// What is seen of devices that do not fit, in the order of [`Failed`].
+    pub failed: [u64; Failed::ALL.len()],
 }
 
 impl Tally {
@@ -57,6 +61,7 @@ impl Tally {
         self.named.iter_mut().zip(other.named).for_each(|(mine, its)| *mine += its);
         self.batched.iter_mut().zip(other.batched).for_each(|(mine, its)| *mine += its);
         self.shared.iter_mut().zip(other.shared).for_each(|(mine, its)| *mine += its);
+        self.failed.iter_mut().zip(other.failed).for_each(|(mine, its)| *mine += its);
         self.forwarded += other.forwarded;
         self.broken += other.broken;
         self.label_there += other.label_there;
@@ -65,6 +70,7 @@ impl Tally {
         self.strange += other.strange;
         self.fits += other.fits;
         self.fails += other.fails;
+        self.explored += other.explored;
         self.high += other.high;
         self.most_moves = self.most_moves.max(other.most_moves);
     }
@@ -104,6 +110,11 @@ impl Tally {
     /// Counts what came of shares, counts or a warning, if this did.
     pub(super) fn share(&mut self, what: Shared, holds: bool) {
         self.shared[what as usize] += u64::from(holds);
+    }
+
+    /// Counts a device that does not fit of which this holds, if it does.
+    pub(super) fn fail(&mut self, what: Failed, holds: bool) {
+        self.failed[what as usize] += u64::from(holds);
     }
 
     /// Counts a verdict.

@@ -30,7 +30,7 @@ pub struct Move {
 /// "A branch … has the label, the kinds, and ranges that hold the numbers."
 pub fn says(branch: &Branch, message: &Message) -> bool {
     branch.label == message.label
-        && branch.kinds() == message.kinds()
+        && branch.kinds().eq(message.kinds())
         && branch.fields.iter().zip(&message.fields).all(|(field, &(_, number))| field.holds(number))
 }
 
@@ -63,14 +63,14 @@ pub fn play(device: &Table, protocol: &Table, machine: Machine, one: &Move) -> (
     if machine.standing != Standing::Running {
         return (machine, false);
     }
-    let has = saying(device, machine.device, &one.message);
-    let allows = saying(protocol, machine.position, &one.message);
+    let has = || saying(device, machine.device, &one.message);
+    let allows = || saying(protocol, machine.position, &one.message);
     match one.side {
         Side::Device => {
             if device.states[machine.device] != Sort::Sends {
                 return (machine, false);
             }
-            match (has, allows) {
+            match (has(), allows()) {
                 (None, _) => (machine, false),
                 (Some(has), Some(allows)) => (forwarded(device, protocol, has, allows), true),
                 (Some(_), None) => (Machine { standing: Standing::DeviceBlamed, ..machine }, false),
@@ -80,7 +80,7 @@ pub fn play(device: &Table, protocol: &Table, machine: Machine, one: &Move) -> (
             if protocol.states[machine.position] != Sort::Receives {
                 return (machine, false);
             }
-            match (allows, has) {
+            match (allows(), has()) {
                 (None, _) => (Machine { standing: Standing::HostBlamed, ..machine }, false),
                 (Some(allows), Some(takes)) => (forwarded(device, protocol, takes, allows), true),
                 (Some(_), None) => (Machine { standing: Standing::Jammed, ..machine }, false),

@@ -20,8 +20,8 @@ pub struct Message {
 }
 
 impl Message {
-    pub fn kinds(&self) -> Vec<Kind> {
-        self.fields.iter().map(|&(kind, _)| kind).collect()
+    pub fn kinds(&self) -> impl Iterator<Item = Kind> + '_ {
+        self.fields.iter().map(|&(kind, _)| kind)
     }
 
     /// How many bytes label, count, kinds, numbers and texts take.
@@ -104,7 +104,7 @@ pub fn has_label(label: &Label, bytes: &[u8]) -> bool {
 
 /// The message of a branch with these numbers, texts filled with 0x20.
 pub fn with_numbers(branch: &Branch, numbers: &[i64]) -> Message {
-    let fields: Vec<(Kind, i64)> = branch.kinds().into_iter().zip(numbers.iter().copied()).collect();
+    let fields: Vec<(Kind, i64)> = branch.kinds().zip(numbers.iter().copied()).collect();
     let texts = fields.iter().map(|&(kind, number)| text_bytes(kind, number)).sum();
     Message { label: branch.label, fields, texts: vec![TEXT_FILLING; texts] }
 }

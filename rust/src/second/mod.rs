@@ -3,7 +3,7 @@
 //!
 //! Each module is a section of the document and uses its names. A refusal is the number of the question that got a no.
 //! Every entry that takes a table asks question 9 first, and no entry panics, whatever it is given. The definitions below the
-//! entries (`judge`, `right`, the machine, `explore`) are over sound tables.
+//! entries (`judge`, `right`, the machine, `explore`, `search`) are over sound tables.
 //!
 //! ```
 //! use sojimu::second::{message, monitor::*, text};
@@ -24,9 +24,11 @@ pub mod brute;
 pub mod fit;
 pub mod machine;
 pub mod message;
+pub mod mistaken;
 pub mod monitor;
 pub mod random;
 pub mod report;
+pub mod shortest;
 pub mod substituted;
 pub mod table;
 pub mod text;

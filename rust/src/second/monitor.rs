@@ -148,7 +148,7 @@ pub fn judge(table: &Table, position: usize, message: &Message) -> Result<usize,
     let named = table.branches.iter().position(|branch| branch.owner == position && branch.label == message.label);
     let number = named.ok_or(Reason::Label)?;
     let branch = &table.branches[number];
-    if branch.kinds() != message.kinds() {
+    if branch.kinds().ne(message.kinds()) {
         return Err(Reason::Kinds);
     }
     let outside = branch.fields.iter().zip(&message.fields).position(|(field, &(_, number))| !field.holds(number));

@@ -112,13 +112,13 @@ pub struct Branch {
 }
 
 impl Branch {
-    pub fn kinds(&self) -> Vec<Kind> {
-        self.fields.iter().map(|field| field.kind).collect()
+    pub fn kinds(&self) -> impl Iterator<Item = Kind> + '_ {
+        self.fields.iter().map(|field| field.kind)
     }
 
     /// "A branch of the same label and kinds" as the other.
     pub fn alike(&self, other: &Branch) -> bool {
-        self.label == other.label && self.kinds() == other.kinds()
+        self.label == other.label && self.kinds().eq(other.kinds())
     }
 
     /// "Whose ranges contain its own": asked of branches of the same kinds.

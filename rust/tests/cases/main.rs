@@ -8,6 +8,7 @@ mod calls;
 use calls::{Calls, Proved, Second};
 use sojimu::second::brute::explore;
 use sojimu::second::fit::{shows_no_fit, Answer};
+use sojimu::second::shortest::search;
 use sojimu::second::table::Raw;
 use sojimu::{Batch, Party, Reason, Standing, State, Verdict, Warning, MOST_BRANCHES, MOST_STATES};
 use std::path::Path;
@@ -45,12 +46,12 @@ fn monitor() {
 
 #[test]
 fn fits() {
-    run("fits", 190);
+    run("fits", 240);
 }
 
 #[test]
 fn reports() {
-    run("reports", 140);
+    run("reports", 155);
 }
 
 #[test]
@@ -159,8 +160,8 @@ impl Run<'_> {
             'q' => self.read(&bytes(given))[..4].to_vec(),
             'r' => self.read(&bytes(given)),
             'l' => self.read_shares(&bytes(given)),
-            'x' => self.fit(given),
-            'y' => self.fit(given)[..2].to_vec(),
+            'x' => self.fit(given, true),
+            'y' => self.fit(given, false)[..2].to_vec(),
             'o' => self.report(given),
             'z' => self.report_in_room(given[0] as usize, &given[1..]),
             _ => self.monitor(command, given),
@@ -320,14 +321,15 @@ impl Run<'_> {
         numbers
     }
 
-    /// Given: the device's text, 100, the protocol's, 100, the list's entries. Texts that are refused are empty tables.
-    fn fit(&self, given: &[u64]) -> Vec<u64> {
+    /// Given: the device's text, 100, the protocol's, 100, the list's entries. Texts that are refused are empty tables. Is the
+    /// list said to be the only one of its length?
+    fn fit(&self, given: &[u64], only: bool) -> Vec<u64> {
         let parts: Vec<&[u64]> = given.split(|&number| number == NO_BYTE).collect();
         let table = |text: &[u64]| self.calls.read(&bytes(text)).unwrap_or(Raw::empty());
         let (device, protocol) = (table(parts[0]), table(parts[1]));
         let mut list = vec![UNTOUCHED_ENTRY; parts[2][0] as usize];
         let answer = self.calls.fit(&device, &protocol, &mut list);
-        played(&device, &protocol, answer, &list);
+        played(&device, &protocol, answer, &list, only);
         let mut numbers = match answer {
             Answer::Refused(question) => vec![0, question.into(), NO_FIELD],
             Answer::Fits(pairs) => vec![1, pairs as u64, NO_FIELD],
@@ -352,8 +354,9 @@ impl Run<'_> {
     }
 }
 
-/// The document's machine says the same of two tables as the fit check, and plays its moves.
-fn played(device: &Raw, protocol: &Raw, answer: Answer, list: &[u16]) {
+/// The document's machine says the same of two tables as the fit check, and plays its moves. There are no fewer, and where the
+/// list is said to be the only one of its length, no others that are as few.
+fn played(device: &Raw, protocol: &Raw, answer: Answer, list: &[u16], only: bool) {
     let (device, protocol) = (device.table(), protocol.table());
     let small = device.branches.len() + protocol.branches.len() <= 20;
     let found = || small.then(|| explore(&device, &protocol));
@@ -363,6 +366,9 @@ fn played(device: &Raw, protocol: &Raw, answer: Answer, list: &[u16]) {
         Answer::NoFit(moves, high) => {
             assert!(found().is_none_or(|found| !found.safe && found.fewest == moves));
             assert!(shows_no_fit(&device, &protocol, &list[..moves], high));
+            let shown = search(&device, &protocol).shown().unwrap();
+            assert_eq!(shown.list.len(), moves);
+            assert!(!(only && shown.several), "{:?}", shown.list);
         }
     }
 }

@@ -11,6 +11,7 @@ mod shares;
 mod states;
 mod tables;
 mod texts;
+mod ways;
 
 pub use batches::*;
 pub use messages::*;
@@ -20,6 +21,7 @@ pub use shares::*;
 pub use states::*;
 pub use tables::*;
 pub use texts::*;
+pub use ways::*;
 
 use super::table::{Field, Kind, Label, LABEL_BYTES, LONGEST_TEXT};
 

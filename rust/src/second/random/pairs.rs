@@ -3,11 +3,12 @@
 use super::names::NAMES;
 use super::tables::branch_for;
 use super::texts::STRANGE_TOKENS;
+use super::ways::said_and_taken;
 use super::{
-    field, fields, joined, label, mend_shares, named_tokens, number_of, other_shares, put_name_after_recs, some_shares,
-    sound_table, tokens, without_shares, Limits, Random, LABELS,
+    fields, joined, label, mend_shares, named_tokens, number_of, other_shares, put_name_after_recs, some_shares, sound_table,
+    tokens, without_shares, Limits, Random, LABELS,
 };
-use crate::second::table::{sound, Branch, Field, Kind, Sort, Table, MOST_BRANCHES, MOST_FIELDS, MOST_STATES};
+use crate::second::table::{sound, Branch, Field, Sort, Table, MOST_BRANCHES, MOST_FIELDS, MOST_STATES};
 use crate::second::text::{read, LONGEST_PROTOCOL};
 
 /// A device that fits whenever this one does: a range that it sends narrower, one that it takes wider, a branch that it sends
@@ -212,16 +213,7 @@ pub fn cycle_pair(random: &mut Random) -> (Table, Table) {
     let (speaks, hears) = (*random.pick(&lengths), *random.pick(&lengths));
     let sort = *random.pick(&[Sort::Sends, Sort::Receives]);
     let step = Branch { owner: 0, label: label(random, &[]), fields: fields(random, MOST_FIELDS), share: None, target: 0 };
-    let kind = *random.pick(&[Kind::Int, Kind::Text]);
-    let tested = Field { kind, low: 5, high: 9 };
-    let odd = Branch { label: label(random, &[step.label]), fields: vec![field(random), tested], ..step.clone() };
-    let mut other = odd.clone();
-    match random.below(4) {
-        0 => other.label = label(random, &[step.label, odd.label]),
-        1 => other.fields[1].kind = if kind == Kind::Int { Kind::Text } else { Kind::Int },
-        2 => other.fields[1].low += 1,
-        _ => other.fields[1].high -= 1,
-    }
+    let (odd, other) = said_and_taken(random, &[step.label]);
     let (asking, deaf) = (random.below(speaks), random.below(hears));
     // The speaker says the odd branch in one state; the hearer knows it in all states but one.
     let speaker = cycle(random, speaks, sort, &step, |state| (state == asking).then(|| odd.clone()));
