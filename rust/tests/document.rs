@@ -765,7 +765,7 @@ fn the_dual_keeps_shares() {
 // Document 02, request 5: fewest moves in a failure
 
 /// What both show of a device that does not fit: the moves, and the field that is high in the last one. Played on the machine
-/// they show it, and where the tables are small, every list of fewer moves was tried.
+/// they show it, and where the tables are small, the machine is explored whole.
 fn shown(device: &str, protocol: &str) -> (Vec<u16>, Option<usize>) {
     let read = |text: &str| (sojimu::Table::read(text.as_bytes()).unwrap(), table(text.as_bytes()));
     let ((proved, device), (proved_protocol, protocol)) = (read(device), read(protocol));

@@ -6,7 +6,7 @@
 //!
 //! The last line is `N passed, M failed`: a kind passes when the two agree in all of its cases; so does each question, each reason
 //! and whatever else is counted that was met a hundred times; and the run when it made 200,000 comparisons, with 20,000 devices
-//! that do not fit, of 5,000 of which every list of fewer moves was tried. The status is 0 only when none failed.
+//! that do not fit, of 5,000 of which the machine was explored whole. The status is 0 only when none failed.
 
 use sojimu::compare::{Batched, Disagreement, Failed, Kind, Named, Shared, Tally, KINDS};
 use std::process::ExitCode;
@@ -20,7 +20,7 @@ const OFTEN: u64 = 100;
 const ENOUGH: u64 = 200_000;
 /// How many devices that do not fit a whole run must compare.
 const FAILING: u64 = 20_000;
-/// Of these, of how many every list of fewer moves must have been tried.
+/// Of these, of how many the machine must have been explored whole.
 const EXPLORED: u64 = 5_000;
 /// How many disagreements of a kind are shown.
 const SHOWN: usize = 3;
@@ -141,7 +141,7 @@ fn demands(tally: &Tally) -> Vec<(String, u64, u64)> {
     Shared::ALL.into_iter().zip(tally.shared).for_each(|(what, count)| often(what.into(), count));
     Failed::ALL.into_iter().zip(tally.failed).for_each(|(what, count)| often(what.into(), count));
     all.push(("fails".into(), tally.fails, FAILING));
-    all.push(("fails, tried".into(), tally.explored, EXPLORED));
+    all.push(("fails, explored".into(), tally.explored, EXPLORED));
     all.push(("comparisons".into(), tally.comparisons, ENOUGH));
     all
 }

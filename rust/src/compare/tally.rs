@@ -34,7 +34,7 @@ pub struct Tally {
     pub fits: u64,
     /// Devices that do not.
     pub fails: u64,
-    /// Of these, such of which every list of fewer moves was tried.
+    /// Of these, such whose machine was explored whole.
     pub explored: u64,
     /// Such with a field that is high in the last move.
     pub high: u64,
