@@ -321,8 +321,8 @@ static inline struct sojimu_reading sojimu_read(const uint8_t *text, size_t leng
 }
 
 /* The report on a device's text against a protocol's: whether it fits, the fewest moves that show it where it does not, or which
- * text is refused. Its bytes open `out`, the rest of which is unchanged, and its length is the answer. Where `out` does not hold it, the
- * answer is 0 and `out` is unchanged; SOJIMU_REPORT bytes always do. */
+ * text is refused. Its bytes open `out`, the rest of which is unchanged, and its length is the answer. Where `out` does not hold
+ * it, the answer is 0 and `out` is unchanged; SOJIMU_REPORT bytes always do. */
 static inline size_t sojimu_report(const uint8_t *protocol, size_t protocol_length, const uint8_t *device, size_t device_length,
                                    uint8_t *out, size_t room)
 {
