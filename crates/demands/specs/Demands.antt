@@ -63,7 +63,8 @@ ReportsOfTexts =
     (protocol device : List ℕ) (p d : Ty) → TextOf protocol p → TextOf device d
     → (report : List ℕ) → Reported protocol device report → ReportOfTexts protocol device p d report
 
--- the fit check fails with K exactly when the shortest failures on the two types' machine have K moves, and then shows one
+-- with room for the product the fit check fails with K exactly when the shortest failures on the two types' machine have K moves, and then
+-- shows one
 abbrev pub FewestOfTexts : Type 0
 FewestOfTexts =
     (protocol device : List ℕ) (p d : Ty) → TextOf protocol p → TextOf device d → (before after : List ℕ)

@@ -15,7 +15,7 @@ use Rattle.fit.proofs.Safe.{fits-safe}
 use Rattle.fit.proofs.Demand.{refused-fails, fits-fails}
 
 -- shortest failures have one number of moves
-pub one-length : {D P : Type 0} {x : Rules D} {y : Rules P} {K L : ℕ} {vs ws : List Move} → Shortest x y K vs → Shortest x y L ws → K ≡ L
+one-length : {D P : Type 0} {x : Rules D} {y : Rules P} {K L : ℕ} {vs ws : List Move} → Shortest x y K vs → Shortest x y L ws → K ≡ L
 unfolding Fewest
 one-length {vs = vs} {ws = ws} s t =
     omega (arith, s .many, t .many, s .fewest ws (t .real) (t .ends-badly), t .fewest vs (s .real) (s .ends-badly))
