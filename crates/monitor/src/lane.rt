@@ -83,7 +83,7 @@ pub fn take(
     }
 }
 
-// A step on a due message: only 16 is left to ask.
+// A step on a due message: only 22 and 16 are left to ask.
 fn heard(
     t: &Table,
     s: State,
@@ -96,6 +96,9 @@ fn heard(
     ensures { λ r. ⌜ (outcome r (now (out .exit)) ≡ stepping (now (t .entry)) s side (now (message .entry)) (now (out .entry)))
         × (now (c .exit) ≡ counted (now (t .entry)) s (now (message .entry)) (told (r .verdict)) (now (c .entry))) ⌝ }
 {
+    if !message::legal_texts(message) {
+        return super::refused(s, 22);
+    }
     if out.len() < message.len() {
         return super::refused(s, 16);
     }

@@ -1,5 +1,5 @@
-// The straight way of a message that is allowed: what a branch of a sound table holds is legal, so that of 13, 14 and 15 only the
-// lengths are left to ask.
+// The straight way of a message that is allowed: what a branch of a sound table holds is legal, so that of 13, 14, 15 and 22 only the
+// lengths and the texts' bytes are left to ask.
 ghost use mathlib.Core.Path.{_≡_};
 ghost use mathlib.Core.Bool.{true};
 ghost use Prim.Native.Nat.{_≤_, _<_};
@@ -11,7 +11,7 @@ use super::judge;
 use table::Party;
 use table::Table;
 
-// The branch that a message takes which gets a yes to 12 to 16 and is allowed; 128 for any other.
+// The branch that a message takes which gets a yes to 12 to 16 and 22 and is allowed; 128 for any other.
 pub fn takes(t: &Table, position: u8, sort: u32, side: Party, message: &[u8], room: usize) -> usize
     requires { ⌜ sound-of (now t) ≡ true ⌝ }
     ensures { λ r. ⌜ (r < 128 → Straight (now (t .entry)) position sort side (now (message .entry)) room r) ⌝ }
@@ -32,6 +32,9 @@ pub fn takes(t: &Table, position: u8, sort: u32, side: Party, message: &[u8], ro
         return 128;
     }
     if held(t, b, message) != size {
+        return 128;
+    }
+    if !message::legal_texts(message) {
         return 128;
     }
     b
@@ -61,6 +64,9 @@ pub fn look_ahead(t: &Table, position: u8, bytes: &[u8], room: usize) -> Ahead
         return nowhere();
     }
     if room < length {
+        return nowhere();
+    }
+    if !message::legal_texts(&bytes[..length]) {
         return nowhere();
     }
     Ahead { branch: b, length }

@@ -1,0 +1,4 @@
+-- Utf8 is what a reader has to believe, Scalars what it means. Steps is what only the functions inside cite.
+pub mod Utf8
+pub mod Scalars
+pub mod Steps

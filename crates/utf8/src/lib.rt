@@ -1,0 +1,145 @@
+// Well-formed UTF-8 (RFC 3629).
+ghost use mathlib.Core.Path.{_≡_};
+ghost use mathlib.Core.Bool.{true};
+ghost use Prim.Native.Nat.{_+_, _≤_, _<_};
+ghost use lib.ListN.{length, getD};
+ghost use Rattle.utf8.specs.Utf8.{is-utf8, within, _to_};
+ghost use Rattle.utf8.specs.Steps.{Spans, Width, size, second, word-here};
+
+// Whether the bytes are is-utf8 UTF-8: character by character, and eight bytes at a time where they are ASCII.
+pub fn is_utf8(bytes: &[u8]) -> bool
+    ensures { λ r. ⌜ r ≡ is-utf8 (now (bytes .entry)) ⌝ }
+{
+    let mut i = ascii(bytes, 0);
+    while i < bytes.len() {
+        let n = width(bytes, i);
+        if n == 0 {
+            return false;
+        }
+        i += n;
+        if n == 1 {
+            i = ascii(bytes, i);
+        }
+    }
+    true
+}
+
+// Past the ASCII bytes from a place on: eight at a time, and the last few one by one.
+fn ascii(bytes: &[u8], from: usize) -> usize
+    requires { ⌜ from ≤ length (now bytes) ⌝ }
+    ensures { λ r. ⌜ Spans (now (bytes .entry)) from r ⌝ }
+{
+    let mut i = from;
+    while 8 <= bytes.len() - i {
+        if !eight(bytes, i) {
+            return letters(bytes, i);
+        }
+        i += 8;
+    }
+    letters(bytes, i)
+}
+
+// The same one by one.
+fn letters(bytes: &[u8], from: usize) -> usize
+    requires { ⌜ from ≤ length (now bytes) ⌝ }
+    ensures { λ r. ⌜ Spans (now (bytes .entry)) from r ⌝ }
+{
+    let mut i = from;
+    while i < bytes.len() {
+        if 0x80 <= bytes[i] {
+            return i;
+        }
+        i += 1;
+    }
+    i
+}
+
+// Eight bytes at once: whether no high bit is set.
+fn eight(bytes: &[u8], at: usize) -> bool
+    requires { ⌜ at + 8 ≤ length (now bytes) ⌝ }
+    ensures { λ r. ⌜ (r ≡ true → Spans (now (bytes .entry)) at (at + 8)) ⌝ }
+{
+    let w = word(bytes, at) * 4294967296 + word(bytes, at + 4);
+    w & 0x8080_8080_8080_8080 == 0
+}
+
+// Four bytes as one number, high byte first.
+fn word(bytes: &[u8], at: usize) -> u64
+    requires { ⌜ at + 4 ≤ length (now bytes) ⌝ }
+    ensures { λ r. ⌜ (r ≡ word-here (now (bytes .entry)) at) × (r < 4294967296) ⌝ }
+{
+    ((bytes[at] as u64 * 256 + bytes[at + 1] as u64) * 256 + bytes[at + 2] as u64) * 256
+        + bytes[at + 3] as u64
+}
+
+// How many bytes the character at a place has; 0 where none stands there.
+fn width(bytes: &[u8], at: usize) -> usize
+    requires { ⌜ at < length (now bytes) ⌝ }
+    ensures { λ r. ⌜ Width (now (bytes .entry)) at r ⌝ }
+{
+    let a = bytes[at];
+    if a < 0x80 {
+        return 1;
+    }
+    if a < 0xC2 {
+        return 0;
+    }
+    if a < 0xE0 {
+        return longer(bytes, at, 2);
+    }
+    if a < 0xF0 {
+        return longer(bytes, at, 3);
+    }
+    if a < 0xF5 {
+        return longer(bytes, at, 4);
+    }
+    0
+}
+
+// The same where the first byte announces n bytes, 2 at least: called with a number, so that each call is a copy for that number.
+fn longer(bytes: &[u8], at: usize, n: usize) -> usize
+    requires { ⌜ (at < length (now bytes)) × (size (getD (now bytes) at 0) ≡ n) × (2 ≤ n) ⌝ }
+    ensures { λ r. ⌜ Width (now (bytes .entry)) at r ⌝ }
+{
+    if bytes.len() - at < n {
+        return 0;
+    }
+    if !second(bytes[at], bytes[at + 1]) {
+        return 0;
+    }
+    if n == 2 {
+        return 2;
+    }
+    if !within(0x80, 0xBF, bytes[at + 2]) {
+        return 0;
+    }
+    if n == 3 {
+        return 3;
+    }
+    if !within(0x80, 0xBF, bytes[at + 3]) {
+        return 0;
+    }
+    4
+}
+
+// Whether a second byte may follow a first that announces more.
+fn second(a: u8, b: u8) -> bool
+    ensures { λ r. ⌜ r ≡ within (second a) b ⌝ }
+{
+    match a {
+        0xE0 => within(0xA0, 0xBF, b),
+        0xED => within(0x80, 0x9F, b),
+        0xF0 => within(0x90, 0xBF, b),
+        0xF4 => within(0x80, 0x8F, b),
+        _ => within(0x80, 0xBF, b),
+    }
+}
+
+fn within(low: u8, high: u8, b: u8) -> bool
+    ensures { λ r. ⌜ r ≡ within (low to high) b ⌝ }
+{
+    if b < low {
+        return false;
+    }
+    b <= high
+}
