@@ -1,0 +1,72 @@
+-- The texts behind the arrays, one by one: what a text leaves decides the rest.
+-- Assumes nothing.
+use mathlib.Core.Path.{_≡_, refl, sym, ap, ap₂, _∙_}
+use mathlib.Core.Logic.{_⊎_, ⊎-elim}
+use mathlib.Core.Bool.{Bool, true, _&&_}
+use mathlib.Core.List.{List, [], _∷_}
+use Prim.Native.Nat.{ℕ, zero, suc, _+_, _*_, _-_, _≤_, _<_}
+use native.Mathlib.Omega.{arith}
+use lib.ListN.{length, take, drop, length-drop, drop-of-length-le}
+use lib.Seq.{take-nil, drop-nil, take-all, drop-cons, drop-drop}
+use Rattle.table.specs.Lists.{every}
+use Rattle.table.proofs.Lists.{join}
+use Rattle.utf8.specs.Utf8.{octets, is-utf8}
+use Rattle.message.specs.Message.{Value, count-of, values-of, text-length, cut-up, texts-of, legal-texts}
+use Rattle.message.proofs.Reading.{value-at, values-length, value-by-place}
+
+-- no bytes, no text that fails
+none-there : (vs : List Value) → every is-utf8 (cut-up vs []) ≡ true
+unfolding cut-up every is-utf8 octets
+none-there [] = refl
+none-there (v ∷ vs) =
+    join (ap is-utf8 (take-nil (text-length v))) (ap (λ bs. every is-utf8 (cut-up vs bs)) (drop-nil (text-length v)) ∙ none-there vs)
+
+pub no-texts : (bytes : List ℕ) → length bytes ≤ 9 + 5 * count-of bytes → legal-texts bytes ≡ true
+unfolding legal-texts texts-of
+no-texts bytes l = ap (λ bs. every is-utf8 (cut-up (values-of bytes) bs)) (drop-of-length-le bytes l) ∙ none-there (values-of bytes)
+
+-- bytes from `at` to `end`: n of them or, where there are fewer, all
+module _ (bytes : List ℕ) (at n end : ℕ) (cut : (end ≡ at + n) ⊎ ((end ≡ length bytes) × (length bytes ≤ at + n))) where
+  text-there : take n (drop at bytes) ≡ take (end - at) (drop at bytes)
+  text-there =
+      ⊎-elim (λ (e : end ≡ at + n). let q : n ≡ end - at = omega arith in ap (λ k. take k (drop at bytes)) q)
+      (λ (e : (end ≡ length bytes) × (length bytes ≤ at + n)).
+      take-all n (drop at bytes) (omega (arith, length-drop at bytes))
+      ∙ sym (take-all (end - at) (drop at bytes) (omega (arith, length-drop at bytes))))
+      cut
+
+  rest-there : drop n (drop at bytes) ≡ drop end bytes
+  rest-there =
+      drop-drop n at bytes
+      ∙ ⊎-elim (λ (e : end ≡ at + n). ap (λ k. drop k bytes) (sym e))
+      (λ (e : (end ≡ length bytes) × (length bytes ≤ at + n)).
+      drop-of-length-le bytes (e .1) ∙ sym (drop-of-length-le bytes {i = end} (omega arith)))
+      cut
+
+-- from field f on, whose text begins at a place
+abbrev pub left-legal : List ℕ → ℕ → ℕ → Bool
+left-legal bytes f at = every is-utf8 (cut-up (drop f (values-of bytes)) (drop at bytes))
+
+module _ (bytes : List ℕ) (arrays : 9 + 5 * count-of bytes ≤ length bytes) where
+  pub texts-begin : legal-texts bytes ≡ left-legal bytes 0 (9 + 5 * count-of bytes)
+  unfolding legal-texts texts-of
+  texts-begin = refl
+
+  -- one text more
+  pub texts-next : (f at end : ℕ) → f < count-of bytes
+      → (end ≡ at + text-length (value-at bytes f)) ⊎ ((end ≡ length bytes) × (length bytes ≤ at + text-length (value-at bytes f)))
+      → left-legal bytes f at ≡ (is-utf8 (take (end - at) (drop at bytes)) && left-legal bytes (f + 1) end)
+  unfolding cut-up every
+  texts-next f at end l cut =
+      let v = value-at bytes f in
+      let n = text-length v in
+      let s : suc f ≡ f + 1 = omega arith in
+      ap (λ vs. every is-utf8 (cut-up vs (drop at bytes)))
+      (drop-cons (values-of bytes) f v (omega (arith, values-length bytes arrays))
+      ∙ ap₂ (λ w k. w ∷ drop k (values-of bytes)) (value-by-place bytes arrays f v l) s)
+      ∙ ap₂ (λ x y. is-utf8 x && every is-utf8 (cut-up (drop (f + 1) (values-of bytes)) y)) (text-there bytes at n end cut) (rest-there bytes at n end cut)
+
+  pub texts-end : (f at : ℕ) → count-of bytes ≤ f → left-legal bytes f at ≡ true
+  unfolding cut-up every
+  texts-end f at l =
+      ap (λ vs. every is-utf8 (cut-up vs (drop at bytes))) (drop-of-length-le (values-of bytes) {i = f} (omega (arith, values-length bytes arrays)))
