@@ -20,7 +20,7 @@ use Rattle.table.specs.declared.Party.{Party}
 use Rattle.table.specs.declared.Party.the-variants.{Device, Host}
 use Rattle.table.proofs.Lists.{both, join, never}
 use Rattle.table.proofs.Facts.{sound-facts}
-use Rattle.message.specs.Message.{read, whole}
+use Rattle.message.specs.Message.{read, whole, legal-texts}
 use Rattle.message.specs.Judge.{allowed, allows, judge}
 use Rattle.message.specs.Make.{opening}
 use Rattle.monitor.specs.declared.State.{State}
@@ -34,8 +34,8 @@ use Rattle.monitor.specs.Conversation.{is-forwarded}
 use Rattle.monitor.specs.Turns.{Heard, LaneIn, Within, is-last-forwarded}
 use Rattle.monitor.proofs.Asking.{zero-or, entered, at-end, at-choice, opened, Ready, ready, asked-then, target-of, refused-step}
 use Rattle.monitor.proofs.Asking.{Way, refuses, forwards, blames, way}
-use Rattle.monitor.proofs.Waiting.{refused-turn, device-awaited, host-awaited, first-within, first-cut, first-formed}
-use Rattle.monitor.proofs.Waiting.{open-here, formed-heard}
+use Rattle.monitor.proofs.Waiting.{refused-turn, device-awaited, host-awaited, first-within, first-cut, first-framed}
+use Rattle.monitor.proofs.Waiting.{open-here, framed-heard}
 use Rattle.monitor.proofs.Demand.{agree, allows-state}
 
 -- ---- a sound table and one of its states
@@ -66,17 +66,20 @@ module _ (t : Words) (s : State) (e : sound-at t (s .position) ≡ true) where
       pub hosts-turn : (sort-at t (s .position) ≡ 1 → ⊥) → awaited t s ≡ of-side Host
       hosts-turn h = host-awaited t s (at-choice t s (p .0) (p .1) on n) h
 
--- ---- a due message is asked 16 only
+-- ---- a due message is asked 22 and 16 only
 
 module _ (t : Words) (s : State) (side : Party) (message out : List ℕ) (d : Heard t s side message) where
   due-open : first-no (of-state t s) ≡ 0
   due-open = open-here t s side (d .turn)
 
-  due-asked : first-no (step-questions t s side message (length out)) ≡ cond (leb (length message) (length out)) 0 16
-  due-asked = formed-heard t s side (d .turn) message (length out) (d .formed)
+  due-asked : first-no (step-questions t s side message (length out)) ≡ cond (legal-texts message) (cond (leb (length message) (length out)) 0 16) 22
+  due-asked = framed-heard t s side (d .turn) message (length out) (d .framed)
 
-  pub due-full : length out < length message → stepping t s side message out ≡ refusing 16 s out
-  due-full h = refused-step t s side message out 16 (due-asked ∙ rw (lt-leb (length message) (length out) h)) (λ z. omega arith)
+  pub due-broken : legal-texts message ≡ false → stepping t s side message out ≡ refusing 22 s out
+  due-broken b = refused-step t s side message out 22 (due-asked ∙ rw b) (λ z. omega arith)
+
+  pub due-full : legal-texts message ≡ true → length out < length message → stepping t s side message out ≡ refusing 16 s out
+  due-full b h = refused-step t s side message out 16 (due-asked ∙ rw (b, lt-leb (length message) (length out) h)) (λ z. omega arith)
 
   pub due-sound : sound-of t ≡ true
   due-sound = opened t s due-open .sound
@@ -84,9 +87,9 @@ module _ (t : Words) (s : State) (side : Party) (message out : List ℕ) (d : He
   due-ready : first-no (step-questions t s side message (length out)) ≡ 0 → Ready (sort (view t) (s .position)) side message (length out)
   due-ready e = ready (sort (view t) (s .position)) side message (length out) (sym (asked-then t s side message (length out) due-open) ∙ e)
 
-  module _ (h : length message ≤ length out) where
+  module _ (b : legal-texts message ≡ true) (h : length message ≤ length out) where
     pub due-yes : first-no (step-questions t s side message (length out)) ≡ 0
-    due-yes = due-asked ∙ rw (le-leb (length message) (length out) h)
+    due-yes = due-asked ∙ rw (b, le-leb (length message) (length out) h)
 
     pub due-whole : whole message ≡ true
     due-whole = due-ready due-yes .whole-there
@@ -145,7 +148,7 @@ module _ (t : Words) (s : State) (side : Party) (bytes : List ℕ) (l : Lane) wh
 
   module _ (a : awaited t s ≡ of-side side) (i : LaneIn bytes l) where
     pub now-due : (first-length rest ≡ 0 → ⊥) → Heard t s side message
-    now-due n = record { turn = a; formed = first-formed rest n }
+    now-due n = record { turn = a; framed = first-framed rest n }
 
     module _ (n : first-length rest ≡ 0 → ⊥) where
       k : StepIn t s side message room (now-due n) (stepping t s side message room)

@@ -16,15 +16,17 @@ use Rattle.table.specs.Scans.{legal-at}
 use Rattle.table.specs.Lists.{first-no}
 use Rattle.table.proofs.Lists.{both, join}
 use Rattle.table.proofs.Facts.{Facts, sound-facts}
-use Rattle.message.specs.Message.{number-at, count-of, announced, read, legal-value, front, refusal, has-label}
+use Rattle.message.specs.Message.{number-at, count-of, announced, read, legal-value, legal-texts, front, refusal, has-label}
 use Rattle.message.specs.Judge.{selected, judge}
-use Rattle.message.proofs.Reading.{value-at, Whole, parts-whole, cut-values}
+use Rattle.message.specs.Layout.{Framed}
+use Rattle.message.proofs.Reading.{value-at, Whole, parts-whole, framed-formed, cut-values}
 use Rattle.message.proofs.Label.{label-in-place}
 use Rattle.table.specs.declared.Party.{Party}
+use Rattle.monitor.specs.Due.{first-length}
 use Rattle.monitor.specs.Leaves.{branch-named, First, inside, Held, ByBranch, Straight, Leading}
 use Rattle.monitor.proofs.Asking.{all-well}
 use Rattle.monitor.proofs.ByPlaces.{allowed-here, chosen-here}
-use Rattle.monitor.proofs.Waiting.{all-there, first-formed}
+use Rattle.monitor.proofs.Waiting.{all-there, first-framed}
 
 -- kinds 1 and 2
 module _ (l h n : ℕ) (a : l ≤ n) (b : n ≤ h) where
@@ -90,11 +92,21 @@ module _ (t : List ℕ) (sound : sound-of t ≡ true) (bytes : List ℕ) (nine :
       ap₂ (λ a b. record { label = a; values = b }) (take-take 8 n bytes (omega (arith, h .size)))
       (cut-values bytes n whole-there (omega (arith, h .counted, h .size)) (h .there))
 
-  pub straight : (room : ℕ) → n ≤ room → Leading t i bytes room n r
+  first-there : first-length bytes ≡ n
+  first-there = all-there bytes front-there (omega (arith, announced-there, h .there)) ∙ announced-there
+
+  -- 22 is what is left to ask
+  formed-there : legal-texts (take n bytes) ≡ true → refusal (take n bytes) ≡ 0
+  formed-there b =
+      let framed = first-framed bytes (λ z. omega (arith, z, first-there, h .size)) in
+      framed-formed (take n bytes) (subst (λ k. Framed (take k bytes)) first-there framed) b
+
+  pub straight : (room : ℕ) → n ≤ room → legal-texts (take n bytes) ≡ true → Leading t i bytes room n r
   unfolding judge selected view branch-named
-  straight room fits = record {
+  straight room fits b = record {
     nine = omega (arith, h .size);
-    first = all-there bytes front-there (omega (arith, announced-there, h .there)) ∙ announced-there;
+    first = first-there;
+    formed = formed-there b;
     holds = fits;
     by-branch = record {
       there = l;
@@ -122,6 +134,4 @@ straight-alone t i message room n r x e sort side turn = record {
     all-taken = ap (λ k. take k message) e ∙ take-length message
 
     formed : refusal message ≡ 0
-    formed =
-        ap refusal (sym (ap (λ k. take k message) (x .first) ∙ all-taken))
-        ∙ first-formed message (λ z. omega (arith, z, x .first, x .nine))
+    formed = subst (λ m. refusal m ≡ 0) all-taken (x .formed)

@@ -14,7 +14,6 @@ use Rattle.table.specs.View.{Words}
 use Rattle.table.specs.declared.Party.{Party}
 use Rattle.table.specs.declared.Party.the-variants.{Device, Host}
 use Rattle.table.proofs.Lists.{never}
-use Rattle.message.proofs.Reading.{well-formed-exactly}
 use Rattle.monitor.specs.declared.State.{State}
 use Rattle.monitor.specs.Step.{Told, is-running, stepping}
 use Rattle.monitor.specs.Due.{of-side, first-length}
@@ -24,7 +23,7 @@ use Rattle.monitor.specs.Batches.{Left, onto, left-by, arrived, BatchInT
 use Rattle.monitor.specs.Conversation.{is-forwarded}
 use Rattle.monitor.specs.Turns.{Within, is-last-forwarded}
 use Rattle.monitor.proofs.Asking.{zero-or, none-stops}
-use Rattle.monitor.proofs.Waiting.{first-within, first-cut, first-formed, first-found}
+use Rattle.monitor.proofs.Waiting.{first-within, first-cut, first-framed, first-found}
 use Rattle.monitor.proofs.Batching.{sound-parts, takes-none, takes-one, turn-is, turn-by, stays, go-on-by, on-again, on-over}
 use Rattle.monitor.proofs.Batching.{begun-within, let-in}
 use Rattle.monitor.proofs.Turning.{turns-within, Over, turn-over, stuck, more-turns}
@@ -37,7 +36,7 @@ first-stays : (r x : List ℕ) → (first-length r ≡ 0 → ⊥) → first-leng
 first-stays r x n =
     ap first-length
     (ap (λ l. l ++ x) (sym (take-append-drop (first-length r) r)) ∙ append-assoc (take (first-length r) r) (drop (first-length r) r) x)
-    ∙ first-found (take (first-length r) r) (drop (first-length r) r ++ x) (well-formed-exactly (take (first-length r) r) .1 (first-formed r n))
+    ∙ first-found (take (first-length r) r) (drop (first-length r) r ++ x) (first-framed r n)
     ∙ first-cut r
 
 taking-stays : (t : Words) (s : State) (side : Party) (bytes more : List ℕ) (l : Lane) → l .used ≤ length bytes

@@ -20,15 +20,15 @@ use Rattle.message.specs.Message.{well-formed}
 use Rattle.message.specs.Make.{opening}
 use Rattle.message.proofs.Reading.{well-formed-exactly}
 use Rattle.monitor.specs.declared.State.{State}
-use Rattle.monitor.specs.Step.{is-running, Told, refused, Outcome, refusing, blaming, forwarding, stepping}
+use Rattle.monitor.specs.Step.{is-running, step-questions, Told, refused, Outcome, refusing, blaming, forwarding, stepping}
 use Rattle.monitor.specs.Due.{first-length}
 use Rattle.monitor.specs.Batch.{Lane, used-by, written-by, Taken, taken, taking, Batch, device-took, host-took, one-turn}
 use Rattle.monitor.specs.Batch.{turns, batch-questions, begun, batching}
 use Rattle.monitor.specs.Batches.{Left, Messages, Accounted, NothingLostOf, NothingLost}
 use Rattle.monitor.specs.Conversation.{is-forwarded}
 use Rattle.monitor.specs.Turns.{is-last-forwarded}
-use Rattle.monitor.proofs.Asking.{zero-or, Way, refuses, forwards, blames, way}
-use Rattle.monitor.proofs.Waiting.{first-within, first-formed}
+use Rattle.monitor.proofs.Asking.{zero-or, heard-formed, Way, refuses, forwards, blames, way}
+use Rattle.monitor.proofs.Waiting.{first-within}
 use Rattle.monitor.proofs.Batching.{takes-none, takes-one, turn-by}
 use Rattle.monitor.proofs.Turning.{turns-keep, blame-stops}
 
@@ -84,7 +84,7 @@ module _ (bytes before : List ℕ) where
     abbrev room : List ℕ
     room = drop (l .written) (l .output)
 
-    module _ (n : ℕ) (h : n ≤ length (drop (l .used) bytes)) (f : well-formed (message n) ≡ true) where
+    module _ (n : ℕ) (h : n ≤ length (drop (l .used) bytes)) where
       inside : l .used + n ≤ length bytes
       inside = omega (arith, h, length-drop (l .used) bytes, a .used)
 
@@ -99,6 +99,11 @@ module _ (bytes before : List ℕ) where
       leaves-it =
           let e : l .written + 0 ≡ l .written = omega arith in
           take-append-drop (l .written) (l .output) ∙ a .forwards ∙ ap (λ k. take k bytes ++ drop k before) (sym e)
+
+      -- of a message that is judged
+      formed : (t : Words) (s : State) (side : Party) → first-no (step-questions t s side (message n) (length room)) ≡ 0
+          → well-formed (message n) ≡ true
+      formed t s side e = well-formed-exactly (message n) .1 (heard-formed t s side (message n) (length room) e)
 
       after-by : (t : Words) (s : State) (side : Party) (x : Outcome) → Way t s side (message n) room x → After (taken n x l)
       unfolding taken used-by written-by refusing blaming forwarding is-last-forwarded is-forwarded
@@ -123,7 +128,7 @@ module _ (bytes before : List ℕ) where
             accounted =
                 record {
                   used = inside;
-                  messages = more-messages (l .used) n (a .messages) f;
+                  messages = more-messages (l .used) n (a .messages) (formed t s side e);
                   passed = subst (Messages bytes) w (a .passed);
                   written = omega (arith, v .even);
                   forwards = leaves-it;
@@ -136,8 +141,8 @@ module _ (bytes before : List ℕ) where
             accounted =
                 record {
                   used = inside;
-                  messages = more-messages (l .used) n (a .messages) f;
-                  passed = subst (λ k. Messages bytes (k + n)) (v .even) (more-messages (l .used) n (a .messages) f);
+                  messages = more-messages (l .used) n (a .messages) (formed t s side e);
+                  passed = subst (λ k. Messages bytes (k + n)) (v .even) (more-messages (l .used) n (a .messages) (formed t s side e));
                   written = omega (arith, v .even);
                   forwards = forwards-it;
                 };
@@ -155,8 +160,7 @@ module _ (bytes before : List ℕ) where
         one n =
             let k = first-length (drop (l .used) bytes) in
             subst After (sym (takes-one t s side bytes l n))
-            (after-by k (first-within (drop (l .used) bytes)) (well-formed-exactly (message k) .1 (first-formed (drop (l .used) bytes) n))
-            t s side (stepping t s side (message k) room) (way t s side (message k) room))
+            (after-by k (first-within (drop (l .used) bytes)) t s side (stepping t s side (message k) room) (way t s side (message k) room))
 
 -- ---- all turns
 

@@ -10,9 +10,10 @@ use lib.Seq.{take-all, drop-drop, drop-length, length-take-le}
 use Rattle.table.specs.Lists.{first-no}
 use Rattle.table.specs.View.{Words, branches-of, target-at, view}
 use Rattle.table.specs.declared.Party.{Party}
-use Rattle.message.specs.Message.{read, refusal}
+use Rattle.message.specs.Message.{read}
 use Rattle.message.specs.Judge.{allowed, selected, judge}
 use Rattle.message.specs.Make.{opening}
+use Rattle.message.proofs.Reading.{formed-framed, formed-legal}
 use Rattle.monitor.specs.declared.State.{State}
 use Rattle.monitor.specs.declared.straight.Ahead.{Ahead}
 use Rattle.monitor.specs.Step.{forwarded, forwarding, judging, step-questions, stepping}
@@ -22,7 +23,7 @@ use Rattle.monitor.specs.Counts.{first-left}
 use Rattle.monitor.specs.Leaves.{moved-to, Leading}
 use Rattle.monitor.specs.Turns.{LaneIn, PassedOn}
 use Rattle.monitor.proofs.Asking.{judged-as}
-use Rattle.monitor.proofs.Waiting.{first-within, first-formed}
+use Rattle.monitor.proofs.Waiting.{first-within}
 use Rattle.monitor.proofs.Batching.{takes-one, due-yes}
 
 -- ---- what is left, as the program has it
@@ -51,9 +52,6 @@ module _ (t : Words) (position : ℕ) (bytes : List ℕ) (l : Lane) (n r : ℕ)
   pub first-there : n ≤ length rest
   first-there = subst (λ k. k ≤ length rest) (x .first) (first-within rest)
 
-  formed : refusal (take n rest) ≡ 0
-  formed = subst (λ k. refusal (take k rest) ≡ 0) (x .first) (first-formed rest some-first)
-
   pub first-size : length (take n rest) ≡ n
   first-size = length-take-le n rest first-there
 
@@ -71,7 +69,7 @@ module _ (t : Words) (position : ℕ) (bytes : List ℕ) (l : Lane) (n r : ℕ)
       ∙ ap (λ y. taken n y l) (judged-as t s side (take n rest) room (allowed (target-at t r)) heard (ap (λ p. judge (view t) p (read (take n rest))) e ∙ x .by-branch .judged))
     where
       heard : first-no (step-questions t s side (take n rest) (length room)) ≡ 0
-      heard = due-yes t s side (take n rest) room (record { turn = a; formed = formed }) (omega (arith, first-size, x .holds))
+      heard = due-yes t s side (take n rest) room (record { turn = a; framed = formed-framed (take n rest) (x .formed) }) (formed-legal (take n rest) (x .formed)) (omega (arith, first-size, x .holds))
 
   pub goes-by : (r < branches-of t) × (selected (view t) position (read (first-left bytes l)) ≡ some r)
   unfolding first-left

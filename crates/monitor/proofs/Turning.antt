@@ -67,7 +67,7 @@ module _ (t : Words) (s : State) (side : Party) (bytes : List ℕ) (l : Lane) wh
     refuses-it : (q : ℕ) → x ≡ record { answer = some (refused q); state = s; lane = l } → Stop x
     blames-it : is-running (x .state .standing) ≡ false → Stop x
 
-  lane-still : (q n : ℕ) → taken n (refusing q s (drop (l .written) (l .output))) l ≡ record { answer = some (refused q); state = s; lane = l }
+  pub lane-still : (q n : ℕ) → taken n (refusing q s (drop (l .written) (l .output))) l ≡ record { answer = some (refused q); state = s; lane = l }
   unfolding taken refusing used-by written-by
   lane-still q n =
       let e : l .used + 0 ≡ l .used = omega arith in

@@ -12,7 +12,7 @@ use Rattle.table.specs.Table.{is-party}
 use Rattle.table.specs.View.{Words, view, sound-of}
 use Rattle.table.specs.declared.Party.{Party}
 use Rattle.table.specs.declared.Party.the-variants.{Device, Host}
-use Rattle.message.specs.Message.{well-formed}
+use Rattle.message.specs.Message.{refusal, well-formed}
 use Rattle.message.specs.Rules.{Rules, table-rules}
 use Rattle.monitor.specs.declared.State.{State}
 use Rattle.monitor.specs.Step.{fresh, is-running, Told, refused, forwarded}
@@ -165,6 +165,20 @@ pub record NothingLostOf (l : Left) (b : Batch) : Type 0 where
 
 abbrev pub NothingLost : Type 0
 NothingLost = (t : Words) (s : State) (l : Left) → NothingLostOf l (batch-of t s l)
+
+-- ---- a text that is no UTF-8
+
+-- what waits on a side
+unfoldable pub waiting-on : Party → Left → List ℕ
+waiting-on Device l = l .device
+waiting-on Host l = l .host
+
+-- where a message that only 22 refuses waits first on the side whose turn it is, a batch stops before it, with 22: whatever waits behind
+-- it, whatever is lent, and as often as it is called, for nothing has changed
+abbrev pub StopsAtText : Type 0
+StopsAtText =
+    (t : Words) (s : State) (l : Left) (side : Party) (message rest : List ℕ) → awaited t s ≡ of-side side → refusal message ≡ 22
+    → waiting-on side l ≡ message ++ rest → batch-of t s l ≡ begun s (l .to-device) (l .to-host) (some (refused 22))
 
 -- ---- demand 2 of batches
 

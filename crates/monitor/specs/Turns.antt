@@ -1,15 +1,16 @@
 -- What the inner functions of a batch say and ask. It need not be believed: the laws tie it to Batch.
 -- Assumes nothing.
 use mathlib.Core.Path.{_≡_}
-use mathlib.Core.Bool.{Bool, true, false, cond}
+use mathlib.Core.Bool.{Bool, true, false}
 use mathlib.Core.List.{List}
 use mathlib.Core.Option.{Option, none, some}
 use Prim.Native.Nat.{ℕ, _+_, _≤_, _<_}
 use lib.ListN.{length}
 use Rattle.table.specs.View.{Words, branches-of, target-at, view, sound-at}
 use Rattle.table.specs.declared.Party.{Party}
-use Rattle.message.specs.Message.{read, legal-texts, refusal}
+use Rattle.message.specs.Message.{read}
 use Rattle.message.specs.Judge.{selected}
+use Rattle.message.specs.Layout.{Framed}
 use Rattle.monitor.specs.declared.State.{State}
 use Rattle.monitor.specs.declared.straight.Ahead.{Ahead}
 use Rattle.monitor.specs.declared.batch.Last.{Last}
@@ -29,7 +30,7 @@ use Rattle.monitor.specs.Batch as B
 -- a due message of the side whose turn it is: only 22 and 16 are left to ask
 pub record Heard (t : Words) (s : State) (side : Party) (message : List ℕ) : Type 0 where
   pub turn : awaited t s ≡ of-side side
-  pub framed : refusal message ≡ cond (legal-texts message) 0 22
+  pub framed : Framed message
 
 -- the counts are within the bytes and the output
 pub record LaneIn (bytes : List ℕ) (l : B.Lane) : Type 0 where

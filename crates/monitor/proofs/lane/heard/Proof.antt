@@ -1,44 +1,62 @@
 -- `monitor::lane::heard` meets its contract. Assumes nothing.
-use mathlib.Core.Path.{sym, ap, refl, _∙_}
+use mathlib.Core.Path.{_≡_, sym, ap, refl, _∙_}
+use mathlib.Core.Bool.{true, false}
 use native.Mathlib.Omega.{arith}
 use borrow.Author.Needs.{needs}
+use borrow.Author.Tests.{not-true, not-false}
+use Rattle.message.specs.Message.{legal-texts}
 use Rattle.message.proofs.Reading.{whole-parts}
 use Rattle.monitor.specs.Step.{told, Outcome, refusing, outcome}
 use Rattle.monitor.specs.Counts.{counted}
 use Rattle.monitor.proofs.Asking.{judged-as}
-use Rattle.monitor.proofs.Batching.{due-full, due-sound, due-yes, due-whole}
+use Rattle.monitor.proofs.Batching.{due-broken, due-full, due-sound, due-yes, due-whole}
 use Rattle.monitor.proofs.Ways.{settles, settled-counted}
 use Rattle.monitor.proofs.lane.heard.Statement.{statement}
 use Rattle.monitor.proofs.lane.heard.Tie as tie
 
+-- what the texts were asked
+texts-no : (c : tie.Then1) → legal-texts (c .before .before .before .before .args .message .now) ≡ false
+texts-no c = sym (c .before .legal-texts .ensures) ∙ not-true _ (c .if1 .taken)
+
+texts-yes : (c : tie.Else1) → legal-texts (c .before .before .before .before .args .message .now) ≡ true
+texts-yes c = sym (c .before .legal-texts .ensures) ∙ not-false _ (c .if1 .left)
+
 returns : tie.Need-returns
 unfolding outcome refusing told counted
-returns c = rw (c .refused .ensures) (sym (due-full _ _ _ _ _ (c .before .before .before .before .pre .0) (c .before .if1 .taken)), refl)
+returns c = rw (c .refused .ensures) (sym (due-broken _ _ _ _ _ (c .before .before .before .before .before .pre .0) (texts-no (c .before))), refl)
+
+returns-2 : tie.Need-returns-2
+unfolding outcome refusing told counted
+returns-2 c =
+    rw (c .refused2 .ensures)
+    (sym (due-full _ _ _ _ _ (c .before .before .before .before .before .before .pre .0) (texts-yes (c .before .before)) (c .before .if2 .taken)), refl)
 
 judge-requires : tie.Need-judge-requires
 judge-requires c κs =
-    let out = c .before .before .before .args .out .now in
-    let d = c .before .before .before .pre .0 in
-    (due-sound _ _ _ _ out d, due-whole _ _ _ _ out d (c .if1 .left))
+    let s = c .before .before .before .before .before in
+    (due-sound _ _ _ _ (s .args .out .now) (s .pre .0), due-whole _ _ _ _ (s .args .out .now) (s .pre .0) (texts-yes (c .before)) (c .if2 .left))
 
 settle-requires : tie.Need-settle-requires
 settle-requires c κs =
     let e = c .before .before .before in
-    let out = e .before .before .before .args .out .now in
-    let p = e .before .before .before .pre in
-    let w = due-whole _ _ _ _ out (p .0) (e .if1 .left) in
-    settles _ _ _ _ _ _ (due-sound _ _ _ _ out (p .0)) (p .1) (omega (arith, whole-parts _ w .nine)) (e .if1 .left) _ (c .before .before .judge .ensures .1)
+    let s = e .before .before .before .before .before in
+    let out = s .args .out .now in
+    let p = s .pre in
+    let w = due-whole _ _ _ _ out (p .0) (texts-yes (e .before)) (e .if2 .left) in
+    settles _ _ _ _ _ _ (due-sound _ _ _ _ out (p .0)) (p .1) (omega (arith, whole-parts _ w .nine)) (e .if2 .left) _ (c .before .before .judge .ensures .1)
 
-returns-2 : tie.Need-returns-2
+returns-3 : tie.Need-returns-3
 unfolding outcome
-returns-2 c =
+returns-3 c =
     let e = c .before .before .before .before .before .before in
-    let s = e .before .before .before in
+    let s = e .before .before .before .before .before in
     let x = c .before .before .settle .ensures in
     let j = c .before .before .before .before .before .judge .ensures in (
-      x .0 ∙ sym (judged-as _ _ _ _ _ _ (due-yes _ _ _ _ (s .args .out .now) (s .pre .0) (e .if1 .left)) (sym (j .0))),
+      x .0 ∙ sym (judged-as _ _ _ _ _ _ (due-yes _ _ _ _ (s .args .out .now) (s .pre .0) (texts-yes (e .before)) (e .if2 .left)) (sym (j .0))),
       x .1 ∙ settled-counted _ _ _ _ _ (s .args .out .now) _ (j .1) _ (ap (λ (y : Outcome). y .verdict) (x .0)),
     )
 
 pub heard-spec : {M : Type 1} → statement M
-heard-spec = tie.close (tie.spec (λ c κs. search needs) returns judge-requires settle-requires (λ c. search needs) returns-2)
+heard-spec =
+    tie.close
+    (tie.spec (λ c κs. search needs) (λ c κs. search needs) returns (λ c κs. search needs) returns-2 judge-requires settle-requires (λ c. search needs) returns-3)
