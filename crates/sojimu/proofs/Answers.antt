@@ -2,7 +2,7 @@
 -- say that it fails, what opens the list is a shortest failure.
 -- Assumes nothing.
 use mathlib.Core.Path.{_≡_, refl, sym, ap, ap₂, subst}
-use mathlib.Core.Bool.{Bool, true, false, _&&_, false≢true}
+use mathlib.Core.Bool.{true}
 use mathlib.Core.List.{List, [], _∷_}
 use mathlib.Core.Option.{Option, none, some}
 use Prim.Native.Nat.{ℕ, _≤_, _<_}
@@ -11,8 +11,8 @@ use borrow.Author.Tests.{ltb-true}
 use Rattle.table.specs.Lists.{every}
 use Rattle.table.specs.View.{Words}
 use Rattle.table.proofs.Lists.{both}
-use Rattle.message.specs.Message.{count-of, whole, legal-values, exact, well-formed}
-use Rattle.message.proofs.Reading.{whole-parts}
+use Rattle.message.specs.Message.{well-formed}
+use Rattle.message.proofs.Reading.{formed-whole}
 use Rattle.fit.specs.Machine.{Move, moves}
 use Rattle.fit.specs.Fit.{last-count, field-named}
 use Rattle.fit.specs.Answer.{Answer, refused, fits, fails, Failed, Answered}
@@ -21,18 +21,10 @@ use Rattle.sojimu.specs.declared.fits.Fit.{Fit}
 use Rattle.sojimu.specs.Codes.{high-code, fit-codes}
 use Rattle.sojimu.specs.Calls.{CodesTell, ShownCodes, CodesFewest}
 
-few : (bytes : List ℕ) → well-formed bytes ≡ true → count-of bytes ≤ 4
-unfolding well-formed
-few bytes e = whole-parts bytes (first (whole bytes) (legal-values bytes) (exact bytes) e) .few
-  where
-    first : (a b c : Bool) → (a && b && c) ≡ true → a ≡ true
-    first true b c e = refl
-    first false b c e = absurd (false≢true e)
-
 last-few : (vs : List Move) → moves vs ≡ true → last-count vs ≤ 4
 unfolding moves every last-count
 last-few [] e = omega arith
-last-few (v ∷ []) e = few (v .bytes) (both (well-formed (v .bytes)) true e .0)
+last-few (v ∷ []) e = formed-whole (v .bytes) (both (well-formed (v .bytes)) true e .0) .few
 last-few (v ∷ w ∷ vs) e = last-few (w ∷ vs) (both (well-formed (v .bytes)) (moves (w ∷ vs)) e .1)
 
 module _ (d p : Words) (before : List ℕ) where
