@@ -7,23 +7,30 @@ use mathlib.Core.List.{List, [], _∷_}
 use Prim.Native.Nat.{ℕ, zero, suc, _+_, _*_, _-_, _≤_, _<_}
 use native.Mathlib.Omega.{arith}
 use lib.ListN.{length, take, drop, length-drop, drop-of-length-le}
-use lib.Seq.{take-nil, drop-nil, take-all, drop-cons, drop-drop}
+use lib.Seq.{take-all, drop-cons, drop-drop}
 use Rattle.table.specs.Lists.{every}
 use Rattle.table.proofs.Lists.{join}
-use Rattle.utf8.specs.Utf8.{octets, is-utf8}
+use Rattle.utf8.specs.Utf8.{is-utf8, is-ascii}
+use Rattle.utf8.proofs.Places.{ascii-utf8, ascii-take, ascii-drop}
 use Rattle.message.specs.Message.{Value, count-of, values-of, text-length, cut-up, texts-of, legal-texts}
 use Rattle.message.proofs.Reading.{value-at, values-length, value-by-place}
 
--- no bytes, no text that fails
-none-there : (vs : List Value) → every is-utf8 (cut-up vs []) ≡ true
-unfolding cut-up every is-utf8 octets
-none-there [] = refl
-none-there (v ∷ vs) =
-    join (ap is-utf8 (take-nil (text-length v))) (ap (λ bs. every is-utf8 (cut-up vs bs)) (drop-nil (text-length v)) ∙ none-there vs)
+-- ASCII is UTF-8, however it is cut
+pub ascii-texts : (vs : List Value) (bs : List ℕ) → is-ascii bs ≡ true → every is-utf8 (cut-up vs bs) ≡ true
+unfolding cut-up every
+ascii-texts [] bs e = refl
+ascii-texts (v ∷ vs) bs e =
+    join (ascii-utf8 (take (text-length v) bs) (ascii-take (text-length v) bs e))
+    (ascii-texts vs (drop (text-length v) bs) (ascii-drop (text-length v) bs e))
 
-pub no-texts : (bytes : List ℕ) → length bytes ≤ 9 + 5 * count-of bytes → legal-texts bytes ≡ true
+pub all-ascii : (bytes : List ℕ) → is-ascii (drop (9 + 5 * count-of bytes) bytes) ≡ true → legal-texts bytes ≡ true
 unfolding legal-texts texts-of
-no-texts bytes l = ap (λ bs. every is-utf8 (cut-up (values-of bytes) bs)) (drop-of-length-le bytes l) ∙ none-there (values-of bytes)
+all-ascii bytes e = ascii-texts (values-of bytes) (drop (9 + 5 * count-of bytes) bytes) e
+
+-- no bytes are
+pub no-texts : (bytes : List ℕ) → length bytes ≤ 9 + 5 * count-of bytes → legal-texts bytes ≡ true
+unfolding is-ascii
+no-texts bytes l = all-ascii bytes (ap is-ascii (drop-of-length-le bytes l))
 
 -- bytes from `at` to `end`: n of them or, where there are fewer, all
 module _ (bytes : List ℕ) (at n end : ℕ) (cut : (end ≡ at + n) ⊎ ((end ≡ length bytes) × (length bytes ≤ at + n))) where

@@ -8,11 +8,19 @@ use native.Mathlib.Omega.{arith}
 use lib.ListN.{length, getD, take, drop}
 use lib.Seq.{split-at}
 use lib.Dec.{T, leb, ltb, ltb→lt, nltb→le}
-use borrow.Author.Tests.{ltb-true, lt-ltb, le-ltb, le-leb, lt-leb, ne-eqb}
+use borrow.Author.Tests.{leb-true, ltb-true, lt-ltb, le-ltb, le-leb, lt-leb, ne-eqb}
 use Rattle.utf8.specs.Utf8.{Range, Row, _to_, _then_, utf8-tail, within, utf8-char, some-row, octets}
 use Rattle.utf8.specs.Steps.{size, second}
 
+pub both : (a b : Bool) → (a && b) ≡ true → (a ≡ true) × (b ≡ true)
+both true b e = (refl, e)
+both false b e = absurd (false≢true e)
+
 -- ---- ranges
+
+pub within-says : (q : Range) (b : ℕ) → within q b ≡ true → (q .low ≤ b) × (b ≤ q .high)
+unfolding within
+within-says q b e = let p = both (leb (q .low) b) (leb b (q .high)) e in (leb-true (q .low) b (p .0), leb-true b (q .high) (p .1))
 
 pub inside : (r : Range) (b : ℕ) → r .low ≤ b → b ≤ r .high → within r b ≡ true
 unfolding within
@@ -31,10 +39,6 @@ above r b h = go (leb (r .low) b) (lt-leb b (r .high) h)
     go false e = refl
 
 -- ---- the row of a first byte: the utf8-char before it end below the byte, and those behind it begin above
-
-pub both : (a b : Bool) → (a && b) ≡ true → (a ≡ true) × (b ≡ true)
-both true b e = (refl, e)
-both false b e = absurd (false≢true e)
 
 starts : ℕ → List ℕ → Row → Bool
 starts a bs row = within (row .lead) a && octets (row .after) bs

@@ -8,12 +8,12 @@ use Prim.Native.Nat.{ℕ, zero, suc, _+_, _-_, _*_, _/_, _%_, _≤_, _<_}
 use native.Mathlib.Nat.{not-suc-le-zero}
 use native.Mathlib.Omega.{arith}
 use lib.ListN.{length, getD, drop}
-use lib.Dec.{leb, ltb, eqb}
-use borrow.Author.Tests.{leb-true, lt-ltb, le-ltb, eqb-true, eqb-false}
+use lib.Dec.{ltb, eqb}
+use borrow.Author.Tests.{lt-ltb, le-ltb, eqb-true, eqb-false}
 use Rattle.utf8.specs.Utf8.{Range, _to_, utf8-tail, within, octets, is-utf8}
 use Rattle.utf8.specs.Steps.{second}
 use Rattle.utf8.specs.Scalars.{scalar, scalars, encode, encode-all, Encoded, EncodedExactly, EncodedOnce}
-use Rattle.utf8.proofs.Leads.{inside, both, lt-or-ge, by-size, lead-one, row-low, row-high, lead-two, lead-three, lead-four, second-E0, second-ED, second-F0, second-F4, second-tail}
+use Rattle.utf8.proofs.Leads.{inside, both, within-says, lt-or-ge, by-size, lead-one, row-low, row-high, lead-two, lead-three, lead-four, second-E0, second-ED, second-F0, second-F4, second-tail}
 use Rattle.utf8.proofs.Encodings.{two, three, four, by-range, encode-one, encode-two, encode-three, encode-four, digits-two, digits-three, digits-four, from-two, from-three, from-four, scalar-low, scalar-high, scalar-says}
 
 -- ---- encodings are well formed
@@ -134,10 +134,6 @@ module _ (r : List ℕ) (goes : octets [] r ≡ true) where
         goes = goes;
         less = omega arith;
       }
-
-within-says : (q : Range) (b : ℕ) → within q b ≡ true → (q .low ≤ b) × (b ≤ q .high)
-unfolding within
-within-says q b e = let p = both (leb (q .low) b) (leb b (q .high)) e in (leb-true (q .low) b (p .0), leb-true b (q .high) (p .1))
 
 second-says : (a b : ℕ) {q : Range} → second a ≡ q → within (second a) b ≡ true → (q .low ≤ b) × (b ≤ q .high)
 second-says a b {q} e w = within-says q b (ap (λ x. within x b) (sym e) ∙ w)

@@ -1,5 +1,5 @@
 -- Characters by their places in the bytes, and eight ASCII bytes in one word. Assumes nothing.
-use mathlib.Core.Path.{_≡_, refl, sym, ap, ap₂, _∙_}
+use mathlib.Core.Path.{_≡_, refl, sym, ap, ap₂, subst, _∙_}
 use mathlib.Core.Logic.{⊎-elim}
 use mathlib.Core.Bool.{Bool, true, false, _&&_}
 use mathlib.Core.List.{List, [], _∷_}
@@ -7,13 +7,18 @@ use Prim.Native.Nat.{ℕ, zero, suc, _+_, _-_, _*_, _/_, _%_, _≤_, _<_}
 use native.Mathlib.Nat.{not-suc-le-zero, le-of-suc-le-suc, add-zero, mod-eq-of-lt}
 use native.Mathlib.Numerals.{add-one}
 use native.Mathlib.Omega.{arith}
-use lib.ListN.{length, getD, drop, length-drop, drop-of-length-le}
+use lib.ListN.{length, getD, take, drop, length-drop, drop-of-length-le}
 use lib.Seq.{drop-cons}
-use lib.Dec.{lit<}
+use lib.Dec.{lit<, eqb}
+use borrow.Author.Tests.{eq-eqb, ne-eqb}
 use lib.Bits.{bitAnd, and-block, and-high}
-use Rattle.utf8.specs.Utf8.{Range, utf8-tail, within, octets, is-utf8}
-use Rattle.utf8.specs.Steps.{size, second, word-here, Spans, Width}
-use Rattle.utf8.proofs.Leads.{tails, due, lead, no-lead, lead-one, lt-or-ge}
+use Rattle.utf8.specs.Utf8.{Range, _to_, utf8-tail, within, octets, is-utf8, is-ascii}
+use Rattle.utf8.specs.Steps.{size, second, word-here, Spans, Ascii, AsciiTo, Width}
+use Rattle.utf8.proofs.Leads.{inside, above, both, within-says, tails, due, lead, no-lead, lead-one, lt-or-ge}
+
+fails : (t : Bool) {u : Bool} → u ≡ false → (t && u) ≡ false
+fails true e = e
+fails false e = refl
 
 -- too few bytes for what is due
 cut : (rs : List Range) (bs : List ℕ) → length bs < length rs → octets rs bs ≡ false
@@ -22,10 +27,6 @@ cut [] [] l = absurd (not-suc-le-zero l)
 cut [] (b ∷ bs) l = absurd (not-suc-le-zero l)
 cut (r ∷ rs) [] l = refl
 cut (r ∷ rs) (b ∷ bs) l = fails (within r b) (cut rs bs (le-of-suc-le-suc l))
-  where
-    fails : (t : Bool) {u : Bool} → u ≡ false → (t && u) ≡ false
-    fails true e = e
-    fails false e = refl
 
 tails-length : (n : ℕ) → length (tails n) ≡ n
 unfolding tails
@@ -171,26 +172,88 @@ module _ (bs : List ℕ) where
       same : (i j : ℕ) → i ≡ j → at i ≡ at j
       same i j q = ap at q
 
-  pub span-eight : (k : ℕ) → k + 8 ≤ length bs → ((i : ℕ) → at i < 256)
-      → bitAnd (word-here bs k * 4294967296 + word-here bs (k + 4)) 0x8080_8080_8080_8080 ≡ 0 → Spans bs k (k + 8)
+  pub ascii-eight : (k : ℕ) → k + 8 ≤ length bs → ((i : ℕ) → at i < 256)
+      → bitAnd (word-here bs k * 4294967296 + word-here bs (k + 4)) 0x8080_8080_8080_8080 ≡ 0 → Ascii bs k (k + 8)
   unfolding mask
-  span-eight k l small e = record {
-    onward = omega arith;
-    inside = l;
-    same = ascii-run k 8 l (all-low (λ i. at (k + i)) (λ i. small (k + i)) 8 (ap (λ w. bitAnd w 0x8080_8080_8080_8080) (sym (words k)) ∙ e));
+  ascii-eight k l small e = record { onward = omega arith; inside = l; low = here }
+    where
+      lows : (i : ℕ) → i < 8 → at (k + i) < 128
+      lows = all-low (λ i. at (k + i)) (λ i. small (k + i)) 8 (ap (λ w. bitAnd w 0x8080_8080_8080_8080) (sym (words k)) ∙ e)
+
+      here : (j : ℕ) → k ≤ j → j < k + 8 → at j < 128
+      here j f g = let q : k + (j - k) ≡ j = omega arith in subst (λ i. at i < 128) q (lows (j - k) (omega arith))
+
+  pub ascii-letter : (k : ℕ) → k < length bs → at k < 128 → Ascii bs k (k + 1)
+  ascii-letter k l h = record { onward = omega arith; inside = omega arith; low = λ j f g. let q : j ≡ k = omega arith in rw q h }
+
+  pub ascii-none : (k : ℕ) → k ≤ length bs → Ascii bs k k
+  ascii-none k l = record { onward = omega arith; inside = l; low = λ j f g. absurd (omega arith) }
+
+  -- ASCII is whole characters
+  pub ascii-spans : {i j : ℕ} → Ascii bs i j → Spans bs i j
+  ascii-spans {i} {j} a = record {
+    onward = a .onward;
+    inside = a .inside;
+    same =
+        let n = j - i in
+        let q : i + n ≡ j = omega (arith, a .onward) in
+        ascii-run i n (omega (arith, a .inside)) (λ k l. a .low (i + k) (omega arith) (omega arith)) ∙ ap (λ k. is-utf8 (drop k bs)) q;
   }
 
-  pub span-letter : (k : ℕ) → k < length bs → at k < 128 → Spans bs k (k + 1)
-  span-letter k l h = record {
-    onward = omega arith;
-    inside = omega arith;
-    same = ascii-run k 1 (omega arith) (λ i m. let q : k + i ≡ k = omega arith in rw q h);
-  }
+pub ascii-on : {bs : List ℕ} {i j k : ℕ} → Ascii bs i j → Ascii bs j k → Ascii bs i k
+ascii-on {bs} {i} {j} {k} a b = record {
+  onward = omega (arith, a .onward, b .onward);
+  inside = b .inside;
+  low = λ n f g. ⊎-elim (λ (l : n < j). a .low n f l) (λ (l : j ≤ n). b .low n l g) (lt-or-ge n j);
+}
+
+-- a word more, to the place n
+pub ascii-more : (bs : List ℕ) (i j n : ℕ) → j + 8 ≡ n → Ascii bs i j → Ascii bs j (j + 8) → Ascii bs i n
+ascii-more bs i j n q a b = subst (λ k. Ascii bs i k) q (ascii-on a b)
+
+pub ascii-to : {bs : List ℕ} {i j k : ℕ} → Ascii bs i j → AsciiTo bs j k → AsciiTo bs i k
+ascii-to a b = record { run = ascii-on a (b .run); stops = b .stops }
+
+-- all of it
+low-all : (bs : List ℕ) → ((k : ℕ) → k < length bs → getD bs k 0 < 128) → is-ascii bs ≡ true
+unfolding is-ascii
+low-all [] h = refl
+low-all (b ∷ bs) h =
+    ap₂ _&&_ (inside (0x00 to 0x7F) b (omega arith) (omega (arith, h 0 (omega arith)))) (low-all bs (λ k l. h (suc k) (omega arith)))
+
+high-one : (bs : List ℕ) (k : ℕ) → k < length bs → 128 ≤ getD bs k 0 → is-ascii bs ≡ false
+unfolding is-ascii
+high-one [] k l h = absurd (not-suc-le-zero l)
+high-one (b ∷ bs) zero l h = ap (λ t. t && is-ascii bs) (above (0x00 to 0x7F) b (omega arith))
+high-one (b ∷ bs) (suc k) l h = fails (within (0x00 to 0x7F) b) (high-one bs k (le-of-suc-le-suc l) h)
+
+pub all-ascii : (bs : List ℕ) (n : ℕ) → AsciiTo bs 0 n → eqb n (length bs) ≡ is-ascii bs
+all-ascii bs n a =
+    ⊎-elim (λ (l : n < length bs). ne-eqb n (length bs) (omega arith) ∙ sym (high-one bs n l (a .stops l)))
+    (λ (l : length bs ≤ n). eq-eqb n (length bs) (omega (arith, a .run .inside)) ∙ sym (low-all bs (λ k m. a .run .low k (omega arith) (omega arith))))
+    (lt-or-ge n (length bs))
+
+-- however it is cut
+pub ascii-utf8 : (bs : List ℕ) → is-ascii bs ≡ true → is-utf8 bs ≡ true
+unfolding is-ascii is-utf8 octets
+ascii-utf8 [] e = refl
+ascii-utf8 (b ∷ bs) e =
+    let p = both (within (0x00 to 0x7F) b) (is-ascii bs) e in
+    lead-one b bs (omega (arith, within-says (0x00 to 0x7F) b (p .0) .1)) ∙ ascii-utf8 bs (p .1)
+
+pub ascii-take : (n : ℕ) (bs : List ℕ) → is-ascii bs ≡ true → is-ascii (take n bs) ≡ true
+unfolding is-ascii
+ascii-take zero bs e = refl
+ascii-take (suc n) [] e = refl
+ascii-take (suc n) (b ∷ bs) e = let p = both (within (0x00 to 0x7F) b) (is-ascii bs) e in ap₂ _&&_ (p .0) (ascii-take n bs (p .1))
+
+pub ascii-drop : (n : ℕ) (bs : List ℕ) → is-ascii bs ≡ true → is-ascii (drop n bs) ≡ true
+unfolding is-ascii
+ascii-drop zero bs e = e
+ascii-drop (suc n) [] e = refl
+ascii-drop (suc n) (b ∷ bs) e = ascii-drop n bs (both (within (0x00 to 0x7F) b) (is-ascii bs) e .1)
 
 -- ---- passing
-
-pub span-none : (bs : List ℕ) (k : ℕ) → k ≤ length bs → Spans bs k k
-span-none bs k l = record { onward = omega arith; inside = l; same = refl }
 
 pub span-on : {bs : List ℕ} {i j k : ℕ} → Spans bs i j → Spans bs j k → Spans bs i k
 span-on p q = let a = p .onward in let b = q .onward in record { onward = omega arith; inside = q .inside; same = p .same ∙ q .same }

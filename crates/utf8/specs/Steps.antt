@@ -14,6 +14,17 @@ pub record Spans (bs : List ℕ) (from next : ℕ) : Type 0 where
   pub inside : next ≤ length bs
   pub same : is-utf8 (drop from bs) ≡ is-utf8 (drop next bs)
 
+-- from one place to a later one there is ASCII
+pub record Ascii (bs : List ℕ) (from next : ℕ) : Type 0 where
+  pub onward : from ≤ next
+  pub inside : next ≤ length bs
+  pub low : (k : ℕ) → from ≤ k → k < next → getD bs k 0 < 0x80
+
+-- and no further
+pub record AsciiTo (bs : List ℕ) (from next : ℕ) : Type 0 where
+  pub run : Ascii bs from next
+  pub stops : next < length bs → 0x80 ≤ getD bs next 0
+
 -- n bytes are the character at a place; or n is 0 and none stands there
 pub record Width (bs : List ℕ) (at n : ℕ) : Type 0 where
   pub whole : 0 < n → Spans bs at (at + n)

@@ -3,8 +3,8 @@ ghost use mathlib.Core.Path.{_≡_};
 ghost use mathlib.Core.Bool.{true};
 ghost use Prim.Native.Nat.{_+_, _≤_, _<_};
 ghost use lib.ListN.{length, getD};
-ghost use Rattle.utf8.specs.Utf8.{is-utf8, within, _to_};
-ghost use Rattle.utf8.specs.Steps.{Spans, Width, size, second, word-here};
+ghost use Rattle.utf8.specs.Utf8.{is-utf8, is-ascii, within, _to_};
+ghost use Rattle.utf8.specs.Steps.{Ascii, AsciiTo, Width, size, second, word-here};
 
 // Whether the bytes are is-utf8 UTF-8: character by character, and eight bytes at a time where they are ASCII.
 pub fn is_utf8(bytes: &[u8]) -> bool
@@ -24,10 +24,49 @@ pub fn is_utf8(bytes: &[u8]) -> bool
     true
 }
 
-// Past the ASCII bytes from a place on: eight at a time, and the last few one by one.
+// Whether every byte is ASCII.
+pub fn is_ascii(bytes: &[u8]) -> bool
+    ensures { λ r. ⌜ r ≡ is-ascii (now (bytes .entry)) ⌝ }
+{
+    let from = blocks(bytes);
+    let end = ascii(bytes, from);
+    end == bytes.len()
+}
+
+// Past the ASCII at the front, four words at a time.
+fn blocks(bytes: &[u8]) -> usize
+    ensures { λ r. ⌜ Ascii (now (bytes .entry)) 0 r ⌝ }
+{
+    let mut i: usize = 0;
+    while 32 <= bytes.len() - i {
+        if !block(bytes, i) {
+            return i;
+        }
+        i += 32;
+    }
+    i
+}
+
+fn block(bytes: &[u8], at: usize) -> bool
+    requires { ⌜ at + 32 ≤ length (now bytes) ⌝ }
+    ensures { λ r. ⌜ (r ≡ true → Ascii (now (bytes .entry)) at (at + 32)) ⌝ }
+{
+    if !eight(bytes, at) {
+        return false;
+    }
+    if !eight(bytes, at + 8) {
+        return false;
+    }
+    if !eight(bytes, at + 16) {
+        return false;
+    }
+    eight(bytes, at + 24)
+}
+
+// Past the ASCII from a place on: a word at a time, and the last few bytes one by one.
 fn ascii(bytes: &[u8], from: usize) -> usize
     requires { ⌜ from ≤ length (now bytes) ⌝ }
-    ensures { λ r. ⌜ Spans (now (bytes .entry)) from r ⌝ }
+    ensures { λ r. ⌜ AsciiTo (now (bytes .entry)) from r ⌝ }
 {
     let mut i = from;
     while 8 <= bytes.len() - i {
@@ -42,7 +81,7 @@ fn ascii(bytes: &[u8], from: usize) -> usize
 // The same one by one.
 fn letters(bytes: &[u8], from: usize) -> usize
     requires { ⌜ from ≤ length (now bytes) ⌝ }
-    ensures { λ r. ⌜ Spans (now (bytes .entry)) from r ⌝ }
+    ensures { λ r. ⌜ AsciiTo (now (bytes .entry)) from r ⌝ }
 {
     let mut i = from;
     while i < bytes.len() {
@@ -54,10 +93,10 @@ fn letters(bytes: &[u8], from: usize) -> usize
     i
 }
 
-// Eight bytes at once: whether no high bit is set.
+// Eight bytes at once: whether no high bit is set in their word.
 fn eight(bytes: &[u8], at: usize) -> bool
     requires { ⌜ at + 8 ≤ length (now bytes) ⌝ }
-    ensures { λ r. ⌜ (r ≡ true → Spans (now (bytes .entry)) at (at + 8)) ⌝ }
+    ensures { λ r. ⌜ (r ≡ true → Ascii (now (bytes .entry)) at (at + 8)) ⌝ }
 {
     let w = word(bytes, at) * 4294967296 + word(bytes, at + 4);
     w & 0x8080_8080_8080_8080 == 0

@@ -3,28 +3,28 @@ use Prim.Native.Nat.{_-_}
 use lib.ListN.{length}
 use borrow.Author.Needs.{needs}
 use borrow.Author.Tests.{not-false}
-use Rattle.utf8.specs.Steps.{Spans}
-use Rattle.utf8.proofs.Places.{span-none, span-on}
+use Rattle.utf8.specs.Steps.{Ascii}
+use Rattle.utf8.proofs.Places.{ascii-none, ascii-on, ascii-to}
 use Rattle.utf8.proofs.ascii.Statement.{statement}
 use Rattle.utf8.proofs.ascii.Tie as tie
 
 abbrev Inv-loop : tie.InvT-loop
-Inv-loop bytes from i₀ i = Spans bytes from i
+Inv-loop bytes from i₀ i = Ascii bytes from i
 
 abbrev μ-loop : tie.MeasureT-loop
 μ-loop bytes from i₀ i = length bytes - i
 
 loop-holds : tie.Need-loop-holds Inv-loop μ-loop
-loop-holds c = span-none _ _ (c .before .pre)
+loop-holds c = ascii-none _ _ (c .before .pre)
 
 returns : tie.Need-returns Inv-loop μ-loop
-returns c = span-on (c .before .before .before .before .loop .inv) (c .letters .ensures)
+returns c = ascii-to (c .before .before .before .before .loop .inv) (c .letters .ensures)
 
 loop-again : tie.Need-loop-again Inv-loop μ-loop
-loop-again c = span-on (c .before .before .before .loop .inv) (c .before .eight .ensures (not-false _ (c .if1 .left)))
+loop-again c = ascii-on (c .before .before .before .loop .inv) (c .before .eight .ensures (not-false _ (c .if1 .left)))
 
 returns-2 : tie.Need-returns-2 Inv-loop μ-loop
-returns-2 c = span-on (c .before .before .loop .inv) (c .letters2 .ensures)
+returns-2 c = ascii-to (c .before .before .loop .inv) (c .letters2 .ensures)
 
 pub ascii-spec : {M : Type 1} → statement M
 ascii-spec =

@@ -5,7 +5,7 @@ use native.Mathlib.Omega.{arith}
 use lib.Bits.{bitAnd}
 use borrow.Author.Needs.{needs}
 use borrow.Author.Tests.{eqb-true}
-use Rattle.utf8.proofs.Places.{span-eight}
+use Rattle.utf8.proofs.Places.{ascii-eight}
 use Rattle.utf8.proofs.eight.Statement.{statement}
 use Rattle.utf8.proofs.eight.Tie as tie
 
@@ -18,7 +18,7 @@ add-w c = omega (arith, c .before .word .ensures .1, c .word2 .ensures .1)
 returns : tie.Need-returns
 returns c = λ e.
     let s = c .before .before .before in
-    span-eight (s .args .bytes .now) (s .args .at) (s .pre) (λ k. c .before .before .shared-slice-known .given k .fits)
+    ascii-eight (s .args .bytes .now) (s .args .at) (s .pre) (λ k. c .before .before .shared-slice-known .given k .fits)
     (ap₂ (λ u v. bitAnd (u * 4294967296 + v) 0x8080_8080_8080_8080) (sym (c .before .word .ensures .0)) (sym (c .word2 .ensures .0)) ∙ eqb-true _ _ e)
 
 pub eight-spec : {M : Type 1} → statement M

@@ -5,7 +5,7 @@ use native.Mathlib.Omega.{arith}
 use lib.ListN.{length}
 use borrow.Author.Needs.{needs}
 use Rattle.utf8.specs.Steps.{Spans}
-use Rattle.utf8.proofs.Places.{span-on, span-all}
+use Rattle.utf8.proofs.Places.{ascii-spans, span-on, span-all}
 use Rattle.utf8.proofs.is_utf8.Statement.{statement}
 use Rattle.utf8.proofs.is_utf8.Tie as tie
 
@@ -16,7 +16,7 @@ abbrev μ-loop : tie.MeasureT-loop
 μ-loop bytes i₀ i = length bytes - i
 
 loop-holds : tie.Need-loop-holds Inv-loop μ-loop
-loop-holds c = c .ascii .ensures
+loop-holds c = ascii-spans _ (c .ascii .ensures .run)
 
 returns : tie.Need-returns Inv-loop μ-loop
 returns c = sym (c .before .before .before .loop .inv .same ∙ c .before .width .ensures .broken (c .if1 .taken))
@@ -33,12 +33,12 @@ ascii-requires-2 : tie.Need-ascii-requires-2 Inv-loop μ-loop
 ascii-requires-2 c κs = whole (c .before) .inside
 
 loop-less : tie.Need-loop-less Inv-loop μ-loop
-loop-less c = omega (arith, c .ascii2 .ensures .onward, c .ascii2 .ensures .inside)
+loop-less c = omega (arith, c .ascii2 .ensures .run .onward, c .ascii2 .ensures .run .inside)
 
 loop-again : tie.Need-loop-again Inv-loop μ-loop
 loop-again c =
     let e = c .before .before in
-    span-on (e .before .before .before .loop .inv) (span-on (whole e) (c .ascii2 .ensures))
+    span-on (e .before .before .before .loop .inv) (span-on (whole e) (ascii-spans _ (c .ascii2 .ensures .run)))
 
 loop-less-2 : tie.Need-loop-less-2 Inv-loop μ-loop
 loop-less-2 c = omega (arith, whole (c .before) .inside)
