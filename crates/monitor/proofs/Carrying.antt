@@ -16,7 +16,7 @@ use Rattle.table.specs.Scans.{legal-at}
 use Rattle.table.specs.Lists.{first-no}
 use Rattle.table.proofs.Lists.{both, join}
 use Rattle.table.proofs.Facts.{Facts, sound-facts}
-use Rattle.message.specs.Message.{number-at, count-of, announced, read, legal-value, legal-texts, front, refusal, has-label}
+use Rattle.message.specs.Message.{number-at, count-of, announced, read, legal-value, front, refusal, has-label}
 use Rattle.message.specs.Judge.{selected, judge}
 use Rattle.message.specs.Layout.{Framed}
 use Rattle.message.proofs.Reading.{value-at, Whole, parts-whole, framed-formed, cut-values}
@@ -95,18 +95,17 @@ module _ (t : List ℕ) (sound : sound-of t ≡ true) (bytes : List ℕ) (nine :
   first-there : first-length bytes ≡ n
   first-there = all-there bytes front-there (omega (arith, announced-there, h .there)) ∙ announced-there
 
-  -- 22 is what is left to ask
-  formed-there : legal-texts (take n bytes) ≡ true → refusal (take n bytes) ≡ 0
-  formed-there b =
+  formed-there : refusal (take n bytes) ≡ 0
+  formed-there =
       let framed = first-framed bytes (λ z. omega (arith, z, first-there, h .size)) in
-      framed-formed (take n bytes) (subst (λ k. Framed (take k bytes)) first-there framed) b
+      framed-formed (take n bytes) (subst (λ k. Framed (take k bytes)) first-there framed) (h .legal)
 
-  pub straight : (room : ℕ) → n ≤ room → legal-texts (take n bytes) ≡ true → Leading t i bytes room n r
+  pub straight : (room : ℕ) → n ≤ room → Leading t i bytes room n r
   unfolding judge selected view branch-named
-  straight room fits b = record {
+  straight room fits = record {
     nine = omega (arith, h .size);
     first = first-there;
-    formed = formed-there b;
+    formed = formed-there;
     holds = fits;
     by-branch = record {
       there = l;

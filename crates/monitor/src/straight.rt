@@ -34,9 +34,6 @@ pub fn takes(t: &Table, position: u8, sort: u32, side: Party, message: &[u8], ro
     if held(t, b, message) != size {
         return 128;
     }
-    if !message::legal_texts(message) {
-        return 128;
-    }
     b
 }
 
@@ -66,9 +63,6 @@ pub fn look_ahead(t: &Table, position: u8, bytes: &[u8], room: usize) -> Ahead
     if room < length {
         return nowhere();
     }
-    if !message::legal_texts(&bytes[..length]) {
-        return nowhere();
-    }
     Ahead { branch: b, length }
 }
 
@@ -81,7 +75,7 @@ fn nowhere() -> Ahead
     }
 }
 
-// How long the first message is, where branch b has its fields and it is all there; 0 where not.
+// How long the first message is, where branch b has its fields, it is all there and its texts are UTF-8; 0 where not.
 fn held(t: &Table, b: usize, bytes: &[u8]) -> usize
     requires { ⌜ (sound-of (now t) ≡ true) × (b < branches-of (now t)) × (9 ≤ length (now bytes)) ⌝ }
     ensures { λ r. ⌜ ((r ≡ 0 → ⊥) → Held (now (t .entry)) (now (bytes .entry)) b r) ⌝ }
@@ -100,6 +94,12 @@ fn held(t: &Table, b: usize, bytes: &[u8]) -> usize
     }
     let length = start + texts;
     if bytes.len() < length {
+        return 0;
+    }
+    if texts == 0 {
+        return length;
+    }
+    if !message::legal_texts(&bytes[..length]) {
         return 0;
     }
     length

@@ -1,10 +1,8 @@
 -- `monitor::straight::look_ahead` meets its contract: nothing is said of 128, and the rest is one law. Assumes nothing.
-use mathlib.Core.Path.{_≡_, sym, ap, _∙_}
+use mathlib.Core.Path.{_≡_, ap}
 use Prim.Native.Nat.{_<_}
 use native.Mathlib.Omega.{arith}
-use lib.Seq.{length-take-le}
 use borrow.Author.Needs.{needs}
-use borrow.Author.Tests.{not-false}
 use Rattle.table.proofs.Facts.{sound-facts}
 use Rattle.monitor.specs.declared.straight.Ahead.{Ahead}
 use Rattle.monitor.proofs.Carrying.{straight}
@@ -41,22 +39,12 @@ returns-4 : tie.Need-returns-4
 returns-4 c l = absurd (not-there _ (c .nowhere4 .ensures) l)
 
 returns-5 : tie.Need-returns-5
-returns-5 c l = absurd (not-there _ (c .nowhere5 .ensures) l)
-
-slice-aggregate-legal-texts : tie.Need-slice-aggregate-legal-texts
-slice-aggregate-legal-texts c =
-    let h = c .before .before .before in
-    sym (length-take-le _ _ (h .held .ensures (c .before .before .if3 .left) .there))
-
-returns-6 : tie.Need-returns-6
-returns-6 c l =
-    let h = c .before .before .before .before .before in
-    let e = h .before in
+returns-5 c l =
+    let e = c .before .before .before in
     let f = e .before in
     let a = start f .args in
     straight (a .t .now) (start f .pre) (a .bytes .now) (f .before .before .if1 .left) (a .position) (f .find .result) (f .find .ensures) (e .if2 .left)
-    _ (h .held .ensures (c .before .before .before .before .if3 .left)) (a .room) (c .before .before .before .if4 .left)
-    (sym (c .before .legal-texts .ensures) ∙ not-false _ (c .if5 .left))
+    _ (c .before .before .held .ensures (c .before .if3 .left)) (a .room) (c .if4 .left)
 
 pub look-ahead-spec : {M : Type 1} → statement M
 look-ahead-spec =
@@ -74,8 +62,4 @@ look-ahead-spec =
     returns-3
     (λ c κs. search needs)
     returns-4
-    slice-aggregate-legal-texts
-    (λ c κs. search needs)
-    (λ c κs. search needs)
-    returns-5
-    returns-6)
+    returns-5)

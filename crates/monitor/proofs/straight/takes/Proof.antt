@@ -1,13 +1,9 @@
 -- `monitor::straight::takes` meets its contract: nothing is said of 128, and the rest is one law. Assumes nothing.
-use mathlib.Core.Path.{_≡_, sym, ap, subst, _∙_}
-use mathlib.Core.Bool.{true}
+use mathlib.Core.Path.{sym, _∙_}
 use native.Mathlib.Omega.{arith}
-use lib.ListN.{take}
-use lib.Seq.{take-length}
 use borrow.Author.Needs.{needs}
 use borrow.Author.Tests.{not-false}
 use Rattle.table.proofs.Facts.{sound-facts}
-use Rattle.message.specs.Message.{legal-texts}
 use Rattle.monitor.proofs.Carrying.{straight, straight-alone}
 use Rattle.monitor.proofs.straight.takes.Statement.{statement}
 use Rattle.monitor.proofs.straight.takes.Tie as tie
@@ -41,20 +37,15 @@ returns-5 : tie.Need-returns-5
 returns-5 c l = absurd (omega arith)
 
 returns-6 : tie.Need-returns-6
-returns-6 c l = absurd (omega arith)
-
-returns-7 : tie.Need-returns-7
-returns-7 c l =
-    let e = c .before .before .before .before in
+returns-6 c l =
+    let e = c .before .before in
     let f = e .before in
     let a = start f .args in
     let nine = f .before .before .if3 .left in
-    let size = c .before .before .if5 .left in
-    let legal = sym (c .before .legal-texts .ensures) ∙ not-false _ (c .if6 .left) in
+    let size = c .if5 .left in
     straight-alone (a .t .now) (a .position) (a .message .now) (a .room) _ _
     (straight (a .t .now) (start f .pre) (a .message .now) nine (a .position) (f .find .result) (f .find .ensures) (e .if4 .left)
-    _ (c .before .before .before .held .ensures (λ z. omega (arith, z, size, nine))) (a .room) (omega (arith, size, f .before .before .before .if2 .left))
-    (subst (λ m. legal-texts m ≡ true) (sym (ap (λ k. take k (a .message .now)) size ∙ take-length (a .message .now))) legal))
+    _ (c .before .held .ensures (λ z. omega (arith, z, size, nine))) (a .room) (omega (arith, size, f .before .before .before .if2 .left)))
     size (a .sort) (a .side) (sym (f .before .before .before .before .before .has-turn .ensures) ∙ not-false _ (f .before .before .before .before .if1 .left))
 
 pub takes-spec : {M : Type 1} → statement M
@@ -71,6 +62,4 @@ takes-spec =
     returns-4
     held-requires
     returns-5
-    (λ c κs. search needs)
-    returns-6
-    returns-7)
+    returns-6)
