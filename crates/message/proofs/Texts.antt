@@ -7,7 +7,7 @@ use mathlib.Core.List.{List, [], _∷_}
 use Prim.Native.Nat.{ℕ, zero, suc, _+_, _*_, _-_, _≤_, _<_}
 use native.Mathlib.Omega.{arith}
 use lib.ListN.{length, take, drop, length-drop, drop-of-length-le}
-use lib.Seq.{take-all, drop-cons, drop-drop}
+use lib.Seq.{take-all, take-add, drop-at, drop-cons, drop-drop, length-take-le, getD-take}
 use Rattle.table.specs.Lists.{every}
 use Rattle.table.proofs.Lists.{join}
 use Rattle.utf8.specs.Utf8.{is-utf8, is-ascii}
@@ -23,9 +23,24 @@ ascii-texts (v ∷ vs) bs e =
     join (ascii-utf8 (take (text-length v) bs) (ascii-take (text-length v) bs e))
     (ascii-texts vs (drop (text-length v) bs) (ascii-drop (text-length v) bs e))
 
-pub all-ascii : (bytes : List ℕ) → is-ascii (drop (9 + 5 * count-of bytes) bytes) ≡ true → legal-texts bytes ≡ true
+all-ascii : (bytes : List ℕ) → is-ascii (drop (9 + 5 * count-of bytes) bytes) ≡ true → legal-texts bytes ≡ true
 unfolding legal-texts texts-of
 all-ascii bytes e = ascii-texts (values-of bytes) (drop (9 + 5 * count-of bytes) bytes) e
+
+-- of n bytes, those behind the arrays
+pub ascii-behind : (bytes : List ℕ) (n start : ℕ) → start ≡ 9 + 5 * count-of bytes → start ≤ n → n ≤ length bytes
+    → is-ascii (take (n - start) (drop start bytes)) ≡ true → legal-texts (take n bytes) ≡ true
+unfolding count-of
+ascii-behind bytes n start q l m e =
+    let c : 9 + 5 * count-of (take n bytes) ≡ start = omega (arith, getD-take n bytes 8 0 (omega arith)) in
+    let p : n ≡ start + (n - start) = omega arith in
+    all-ascii (take n bytes)
+    (ap is-ascii
+    (ap (λ k. drop k (take n bytes)) c
+    ∙ ap (λ k. drop start (take k bytes)) p
+    ∙ ap (drop start) (take-add start (n - start) bytes)
+    ∙ drop-at (take start bytes) (take (n - start) (drop start bytes)) start (length-take-le start bytes (omega arith)))
+    ∙ e)
 
 -- no bytes are
 pub no-texts : (bytes : List ℕ) → length bytes ≤ 9 + 5 * count-of bytes → legal-texts bytes ≡ true

@@ -75,7 +75,8 @@ fn nowhere() -> Ahead
     }
 }
 
-// How long the first message is, where branch b has its fields, it is all there and its texts are UTF-8; 0 where not.
+// How long the first message is, where branch b has its fields, it is all there and its texts are UTF-8; 0 where not. ASCII is UTF-8,
+// whatever fields it is of.
 fn held(t: &Table, b: usize, bytes: &[u8]) -> usize
     requires { ⌜ (sound-of (now t) ≡ true) × (b < branches-of (now t)) × (9 ≤ length (now bytes)) ⌝ }
     ensures { λ r. ⌜ ((r ≡ 0 → ⊥) → Held (now (t .entry)) (now (bytes .entry)) b r) ⌝ }
@@ -96,7 +97,7 @@ fn held(t: &Table, b: usize, bytes: &[u8]) -> usize
     if bytes.len() < length {
         return 0;
     }
-    if texts == 0 {
+    if utf8::is_ascii(&bytes[start..length]) {
         return length;
     }
     if !message::legal_texts(&bytes[..length]) {

@@ -1,16 +1,16 @@
 -- `monitor::straight::held` meets its contract: nothing is said of 0. Assumes nothing.
-use mathlib.Core.Path.{_≡_, refl, sym, _∙_}
+use mathlib.Core.Path.{_≡_, refl, sym, ap, _∙_}
 use mathlib.Core.Bool.{true}
 use Prim.Native.Nat.{ℕ, _+_, _*_, _≤_, _<_}
 use native.Mathlib.Omega.{arith}
 use lib.ListN.{take}
-use lib.Seq.{length-take-le, getD-take}
+use lib.Seq.{length-take-le}
 use borrow.Author.Needs.{needs}
 use borrow.Author.Tests.{not-false}
 use Rattle.table.specs.View.{count-at}
 use Rattle.table.proofs.Facts.{Facts, sound-facts}
 use Rattle.message.specs.Message.{count-of, legal-texts}
-use Rattle.message.proofs.Texts.{no-texts}
+use Rattle.message.proofs.Texts.{ascii-behind}
 use Rattle.monitor.specs.Leaves.{Held}
 use Rattle.monitor.proofs.straight.held.Statement.{statement}
 use Rattle.monitor.proofs.straight.held.Tie as tie
@@ -92,23 +92,22 @@ all-there c legal = record {
   legal = legal;
 }
 
--- no bytes of text, none to ask
 returns-5 : tie.Need-returns-5
 unfolding count-of
 returns-5 c n =
-    let e = c .before in
-    let b = start e .args .bytes .now in
-    let same = getD-take (size e) b 8 0 (omega arith) in
-    all-there e (no-texts (take (size e) b) (omega (arith, length-take-le (size e) b (e .if4 .left), same, e .before .before .before .before .if1 .left, c .if5 .taken)))
+    let e = c .before .before .before in
+    all-there e
+    (ascii-behind (start e .args .bytes .now) (size e) _ (ap (λ k. 9 + 5 * k) (sym (e .before .before .before .before .if1 .left))) (omega arith) (e .if4 .left)
+    (sym (c .before .is-ascii .ensures) ∙ c .if5 .taken))
 
 slice-aggregate-legal-texts : tie.Need-slice-aggregate-legal-texts
-slice-aggregate-legal-texts c = sym (length-take-le _ _ (c .before .before .if4 .left))
+slice-aggregate-legal-texts c = sym (length-take-le _ _ (c .before .before .before .before .if4 .left))
 
 returns-6 : tie.Need-returns-6
 returns-6 c n = absurd (n refl)
 
 returns-7 : tie.Need-returns-7
-returns-7 c n = all-there (c .before .before .before .before) (sym (c .before .legal-texts .ensures) ∙ not-false _ (c .if6 .left))
+returns-7 c n = all-there (c .before .before .before .before .before .before) (sym (c .before .legal-texts .ensures) ∙ not-false _ (c .if6 .left))
 
 pub held-spec : {M : Type 1} → statement M
 held-spec =
@@ -129,6 +128,10 @@ held-spec =
     returns-3
     (λ c. search needs)
     returns-4
+    (λ c. search needs)
+    (λ c. search needs)
+    (λ c. search needs)
+    (λ c κs. search needs)
     returns-5
     slice-aggregate-legal-texts
     (λ c κs. search needs)
