@@ -119,14 +119,14 @@ pub fn count(text: &[u8], tally: &mut Tally) {
 
 fn row(character: char) -> Encoded {
     match u32::from(character) {
-        ..0x80 => Encoded::One,
-        ..0x800 => Encoded::Two,
-        ..0x1000 => Encoded::ThreeE0,
-        ..0xD000 => Encoded::Three,
-        ..0xD800 => Encoded::ThreeEd,
-        ..0x1_0000 => Encoded::ThreeEe,
-        ..0x4_0000 => Encoded::FourF0,
-        ..0x10_0000 => Encoded::Four,
+        0..=0x7F => Encoded::One,
+        0x80..=0x7FF => Encoded::Two,
+        0x800..=0xFFF => Encoded::ThreeE0,
+        0x1000..=0xCFFF => Encoded::Three,
+        0xD000..=0xD7FF => Encoded::ThreeEd,
+        0xD800..=0xFFFF => Encoded::ThreeEe,
+        0x1_0000..=0x3_FFFF => Encoded::FourF0,
+        0x4_0000..=0xF_FFFF => Encoded::Four,
         _ => Encoded::FourF4,
     }
 }

@@ -292,6 +292,7 @@ pub fn batches(random: &mut Random, tally: &mut Tally) -> Outcome {
     };
     let Faulty { table, both, branch, side, message, .. } = &faulty;
     let bytes = message.bytes();
+    let before = waiting.clone();
     waiting.of(*side).extend(&bytes);
     // What is behind it follows it, or follows as if it were not there.
     let next = *random.pick(&[end, table.branches[*branch].target]);
@@ -300,7 +301,7 @@ pub fn batches(random: &mut Random, tally: &mut Tally) -> Outcome {
     let state = state_codes(&state_at(random, table, position));
     // At times there is room for those before it alone.
     let more = random.below(2) * bytes.len();
-    let (device_room, host_room) = (waiting.host.len() + more, waiting.device.len() + more);
+    let (device_room, host_room) = (before.host.len() + more, before.device.len() + more);
     let first = Waiting {
         device: with_some(random, &waiting.device, &behind.device),
         host: with_some(random, &waiting.host, &behind.host),

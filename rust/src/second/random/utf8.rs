@@ -133,20 +133,33 @@ fn cut_character(random: &mut Random, text: &[u8]) -> Vec<u8> {
     [&text[..kept], &start].concat()
 }
 
-/// The message with one of its texts broken; none where every text is empty.
+/// The message with one of its texts broken, or two next to each other by a character that goes from the one on into the other;
+/// none where every text is empty.
 pub fn with_broken_text(random: &mut Random, message: &Message) -> Option<Message> {
-    let long: Vec<usize> =
-        message.each_text().enumerate().filter(|(_, text)| !text.is_empty()).map(|(field, _)| field).collect();
-    let broken = *long.get(random.below(long.len()))?;
-    let mut texts = Vec::new();
-    for (field, text) in message.each_text().enumerate() {
-        if field == broken {
-            texts.extend(broken_utf8(random, text.len()));
-        } else {
-            texts.extend(text);
+    let mut texts: Vec<Vec<u8>> = message.each_text().map(<[u8]>::to_vec).collect();
+    let long: Vec<usize> = (0..texts.len()).filter(|&field| !texts[field].is_empty()).collect();
+    let place = random.below(long.len());
+    let broken = *long.get(place)?;
+    match long.get(place + 1) {
+        Some(&next) if random.one_in(2) => {
+            let (one, other) = cut_at_a_border(random, texts[broken].len(), texts[next].len());
+            (texts[broken], texts[next]) = (one, other);
         }
+        _ => texts[broken] = broken_utf8(random, texts[broken].len()),
     }
-    Some(Message { texts, ..message.clone() })
+    Some(Message { texts: texts.concat(), ..message.clone() })
+}
+
+/// Two texts of so many bytes, at least one each, that are well formed when they are joined, and not by themselves.
+fn cut_at_a_border(random: &mut Random, one: usize, other: usize) -> (Vec<u8>, Vec<u8>) {
+    let rows: Vec<_> = ROWS[1..].iter().filter(|row| row.len() <= one + other).collect();
+    let row = **random.pick(&rows);
+    let character = character(random, row);
+    let least = character.len().saturating_sub(other).max(1);
+    let cut = least + random.below(one.min(character.len() - 1) + 1 - least);
+    let before = utf8_bytes(random, one - cut);
+    let behind = utf8_bytes(random, other - (character.len() - cut));
+    ([&before, &character[..cut]].concat(), [&character[cut..], &behind].concat())
 }
 
 /// The table with a text that is not empty in most of its branches.
