@@ -462,7 +462,10 @@ fn due_parts() {
     let (mut found, mut nothing, mut broken) = (0, 0, 0);
     for seed in 0..rounds(4000) {
         let mut random = Random::new(seed);
-        let table = sound_table(&mut random, 6, 12);
+        let mut table = sound_table(&mut random, 6, 12);
+        if random.one_in(2) {
+            table = with_texts(&mut random, &table);
+        }
         let standing = *random.pick(&[Standing::Running, Standing::Running, Standing::DeviceBlamed, Standing::HostBlamed]);
         let state = State { position: random.below(table.states.len() + 1), standing, ..begun(&table) };
         let (device, host) = (waiting(&mut random, &table), waiting(&mut random, &table));
