@@ -1,7 +1,7 @@
 //! The monitors that the benchmarks time are right: on random inputs they agree with the second implementation.
 
 use sojimu::bench::by_hand::{self, Pass, Place};
-use sojimu::bench::inputs::{scanner, small, Input};
+use sojimu::bench::inputs::{scanner, small, texts, Input};
 use sojimu::bench::plain;
 use sojimu::compare::{self, party, state_codes, verdict};
 use sojimu::second::random::*;
@@ -152,7 +152,8 @@ fn the_inputs_are_of_the_sizes_they_say() {
     let largest = Input::all()[2].table();
     assert!(largest.fields.iter().all(|&count| count == 4));
     assert_eq!((scanner().table().states, scanner().table().branches), (6, 9));
-    for input in Input::all().into_iter().chain([scanner()]) {
+    assert_eq!((texts().table().states, texts().table().branches), (1, 1));
+    for input in Input::all().into_iter().chain([scanner(), texts()]) {
         let (start, round) = input.conversation();
         assert_eq!(start.standing, Standing::RUNNING);
         assert!(!round.is_empty());

@@ -31,7 +31,8 @@ pub fn front(bytes: &[u8]) -> Result<usize, Question> {
 }
 
 /// Can nothing that follows make a message of these bytes? Nine of them have an illegal label or a count above 4, or both arrays
-/// are whole and 14 says no. What is not broken either has a front or may get one: 29 bytes always tell.
+/// are whole and 14 says no. What is not broken either has a front or may get one: 29 bytes always tell. The texts' bytes are not
+/// looked at.
 ///
 /// ```
 /// use sojimu::message::broken;
