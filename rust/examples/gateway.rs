@@ -128,6 +128,11 @@ fn pump(protocol: &Table, talk: &mut Conversation, log: &mut dyn Write) -> io::R
         match batch.last {
             // An output was full. What it held is passed on, so it has room again.
             Some(Verdict::Refused(Question(16))) => {}
+            // A text is no UTF-8, and stays so, whatever follows. Nobody is blamed.
+            Some(Verdict::Refused(Question(22))) => {
+                writeln!(log, "a broken text")?;
+                return Ok(false);
+            }
             Some(Verdict::Blamed(party, reason)) => {
                 writeln!(log, "{party:?} blamed, reason {}", reason.number())?;
                 return Ok(false);

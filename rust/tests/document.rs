@@ -1,4 +1,4 @@
-//! Every example of document 01, and those of the requests in document 02 that are built; of requests 4 and 5 every sentence,
+//! Every example of document 01, and those of the requests in document 02 that are built; of requests 4, 5 and 6 every sentence,
 //! through both implementations.
 
 use sojimu::compare::{self, party, state_codes};
@@ -947,6 +947,180 @@ fn reports_of_the_fewest_moves() {
     (device[13], protocol[14]) = (",!Z().X", "");
     let wanted = format!("no fit 210\n{}in Z\nblamed\n", "in A\n".repeat(209));
     same(&cycle(&protocol), &cycle(&device), &wanted);
+}
+
+// Document 02, request 6: texts must be UTF-8
+
+/// The question that both refuse the bytes by, or 0.
+fn refusal(bytes: &[u8]) -> u8 {
+    let question = message::read(bytes).err().unwrap_or(0);
+    assert_eq!(sojimu::message::refusal(bytes).map_or(0, |no| no.0), question, "{bytes:02X?}");
+    question
+}
+
+/// A message of a label and these texts.
+fn saying(label: &[u8], texts: &[&[u8]]) -> Vec<u8> {
+    let fields = texts.iter().map(|text| (Kind::Text, text.len() as i64)).collect();
+    message::Message { label: label_of(label), fields, texts: texts.concat() }.bytes()
+}
+
+/// A number in the form of so many bytes, if it has so many bits at the most: UTF-8 as it would be without RFC 3629's limits.
+fn form(number: u32, length: usize) -> Option<Vec<u8>> {
+    let (lead, bits) = [(0x00, 7), (0xC0, 11), (0xE0, 16), (0xF0, 21)][length - 1];
+    let tail = |place: usize| (number >> (6 * place)) as u8 & 0x3F | 0x80;
+    let first = lead | (number >> (6 * (length - 1))) as u8;
+    (number >> bits == 0).then(|| std::iter::once(first).chain((0..length - 1).rev().map(tail)).collect())
+}
+
+#[test]
+fn every_form_of_every_number() {
+    // The shortest form of a number up to 10FFFF that is no surrogate, and no other.
+    let (mut formed, mut not) = (0, 0);
+    for number in 0..0x20_0000 {
+        let character = char::from_u32(number).map(String::from);
+        for text in (1..=4).filter_map(|length| form(number, length)) {
+            let well_formed = character.as_ref().is_some_and(|character| character.as_bytes() == text);
+            assert_eq!(refusal(&saying(b"Say", &[&text])), if well_formed { 0 } else { 22 }, "{number:X}");
+            *(if well_formed { &mut formed } else { &mut not }) += 1;
+        }
+    }
+    assert_eq!(formed, 0x11_0000 - 0x800);
+    assert_eq!(formed + not, 0x80 + 0x800 + 0x1_0000 + 0x20_0000);
+}
+
+#[test]
+fn every_text_is_asked_by_itself() {
+    let name = "Größe €, \u{10FFFF}\0\u{FEFF}\u{FFFE}\u{FFFF}\u{1FFFE}".as_bytes();
+    assert_eq!(refusal(&saying(b"Say", &[b"", name, b"", name])), 0);
+    for cut in 0..=name.len() {
+        let (one, other) = name.split_at(cut);
+        let whole = std::str::from_utf8(one).is_ok();
+        assert_eq!(refusal(&saying(b"Say", &[one, other])), if whole { 0 } else { 22 }, "{cut}");
+        assert_eq!(refusal(&saying(b"Say", &[one, b"", other])), if whole { 0 } else { 22 }, "{cut}");
+    }
+    for place in 0..4 {
+        let mut texts = [name; 4];
+        texts[place] = b"\xC3(";
+        assert_eq!(refusal(&saying(b"Say", &texts)), 22, "{place}");
+    }
+    // A text of one kind of bytes alone; numbers are no texts.
+    assert_eq!(refusal(&saying(b"Say", &[&[0xFF; 64]])), 22);
+    assert_eq!(refusal(b"Say\0\0\0\0\0\x01\0\xFF\xFF\xC3("), 0);
+}
+
+const NAMED: &str = "+{!Say(text[1..2]).&{?Ok(text[0..64]).end},!Quit().end}";
+
+#[test]
+fn lengths_are_still_bytes() {
+    let mut talk = Talk::begin(NAMED, 200).unwrap();
+    assert_eq!(refusal(b"Say\0\0\0\0\0\x01\x01\0\0\0\x01\xC3\xA9"), 15);
+    assert_eq!(talk.say(Side::Device, &saying(b"Say", &["é".as_bytes()])), Verdict::Forwarded);
+    // 21 characters of three bytes and one of one are 64; one more of three is above what a number may be.
+    let long = "€".repeat(21) + ".";
+    assert_eq!(refusal(&saying(b"Ok", &[("€".repeat(22)).as_bytes()])), 14);
+    assert_eq!(talk.say(Side::Host, &saying(b"Ok", &[long.as_bytes()])), Verdict::Forwarded);
+    let mut talk = Talk::begin(NAMED, 200).unwrap();
+    let blamed = Verdict::Blamed(Side::Device, Reason::Range(0));
+    assert_eq!(talk.say(Side::Device, &saying(b"Say", &["€".as_bytes()])), blamed);
+}
+
+#[test]
+fn a_step_asks_22_after_15_and_before_16() {
+    let mut talk = Talk::begin(NAMED, 200).unwrap();
+    let before = talk.state;
+    let broken = saying(b"Say", &[b"\xFF"]);
+    let longer = [&broken[..], b"\xFF"].concat();
+    assert_eq!(talk.say(Side::Host, &broken), Verdict::Refused(12));
+    assert_eq!(talk.say(Side::Device, &saying(b"say", &[b"\xFF"])), Verdict::Refused(13));
+    assert_eq!(talk.say(Side::Device, &saying(b"Say", &[&[0xFF; 65]])), Verdict::Refused(14));
+    assert_eq!(talk.say(Side::Device, &longer), Verdict::Refused(15));
+    assert_eq!(talk.say(Side::Device, &broken), Verdict::Refused(22));
+    // Before it is judged: no such label, other kinds, out of range.
+    assert_eq!(talk.say(Side::Device, &saying(b"Nope", &[b"\xFF"])), Verdict::Refused(22));
+    assert_eq!(talk.say(Side::Device, &saying(b"Quit", &[b"\xFF"])), Verdict::Refused(22));
+    assert_eq!(talk.say(Side::Device, &saying(b"Say", &[b"abc\xFF"])), Verdict::Refused(22));
+    assert_eq!(talk.state, before);
+    // Without room.
+    for room in [0, broken.len() - 1] {
+        let (mut out, mut state) = (vec![0xEE; room], before);
+        assert_eq!(step(&talk.second, &mut state, Side::Device, &broken, &mut out), Verdict::Refused(22));
+        let mut codes = state_codes(&before);
+        let told = talk.proved.step(&mut codes, sojimu::Party::Device, &broken, &mut out);
+        assert_eq!(told, sojimu::Verdict::Refused(Question(22)));
+        assert_eq!((out, state, codes), (vec![0xEE; room], before, state_codes(&before)));
+    }
+    // After it the conversation goes on.
+    assert_eq!(talk.say(Side::Device, &saying(b"Say", &[b"\x7F"])), Verdict::Forwarded);
+}
+
+#[test]
+fn a_batch_stops_at_22_again_and_again() {
+    let mut talk = Talk::begin("rec X.+{!Say(text[0..64]).&{?Ok(text[0..64]).X}}", 200).unwrap();
+    let (said, ok) = (saying(b"Say", &["é".as_bytes()]), saying(b"Ok", &[b""]));
+    let broken = saying(b"Say", &[b"\xE2\x82"]);
+    let device = [&said[..], &broken, &said].concat();
+    let refused = Some(Verdict::Refused(22));
+    let (used, answered) = (said.len(), ok.len());
+    let wanted =
+        Batch { used_device: used, used_host: answered, written_to_device: answered, written_to_host: used, last: refused };
+    assert_eq!(talk.batch(&device, &ok), wanted);
+    let nothing = Batch { used_device: 0, used_host: 0, written_to_device: 0, written_to_host: 0, last: refused };
+    let left = talk.state;
+    for more in 0..3 {
+        let device = [&device[used..], &said.repeat(more)].concat();
+        assert_eq!((talk.batch(&device, &ok.repeat(more)), talk.state), (nothing, left));
+    }
+    // The host's, too.
+    assert_eq!(talk.batch(&said, &saying(b"Ok", &[b"\x80"])).last, refused);
+    assert_eq!((talk.state.position, talk.state.standing), (1, Standing::Running));
+}
+
+#[test]
+fn the_due_part_is_cut_by_length_as_before() {
+    let talk = Talk::begin(NAMED, 200).unwrap();
+    let broken = saying(b"Say", &[b"\xC3"]);
+    let length = broken.len();
+    let waiting = [&broken[..], b"\xA9"].concat();
+    assert_eq!(due(&talk.second, &talk.state, &waiting, b""), Part { side: Side::Device, length });
+    assert_eq!(talk.proved.due(&state_codes(&talk.state), &waiting, b"").message, broken);
+    assert_eq!(sojimu::message::front(&waiting), Ok(length));
+    assert!(!sojimu::message::broken(&waiting) && !message::broken(&waiting));
+}
+
+#[test]
+fn what_is_made_is_well_formed() {
+    let text = "+{!Say(text[0..64],int[-5..5],text[7..9],flag[0..1]).end}";
+    for high in [None, Some(0), Some(1), Some(2), Some(3)] {
+        let (mut one, mut other) = ([0; 300], [0; 300]);
+        let length = message::make(&table(text.as_bytes()), 0, high, &mut one).unwrap();
+        let proved = sojimu::Table::read(text.as_bytes()).unwrap();
+        assert_eq!(proved.make(0, high.map(|field| field as u32), &mut other), Ok(length));
+        assert_eq!((one, refusal(&one[..length])), (other, 0));
+    }
+}
+
+#[test]
+fn a_move_is_a_well_formed_message() {
+    let text = b"+{!Say(text[1..9]).&{?Ok(text[1..9]).end}}".as_slice();
+    let says = |label: &[u8], text: &[u8]| {
+        let fields = vec![(Kind::Text, text.len() as i64)];
+        message::Message { label: label_of(label), fields, texts: text.into() }
+    };
+    let of = |side, message| Move { side, message };
+    let moves = [
+        of(Side::Device, says(b"Say", b"\xFF")),
+        of(Side::Device, says(b"Say", "é".as_bytes())),
+        // One that the protocol forbids would blame the host.
+        of(Side::Host, says(b"Nope", b"\xFF")),
+        of(Side::Host, says(b"Ok", b"\xED\xA0\x80")),
+        of(Side::Host, says(b"Ok", "é".as_bytes())),
+    ];
+    let (left, forwarded) = machine::play_all(&table(text), &table(text), &moves);
+    assert_eq!(left, Machine { device: 2, position: 2, standing: machine::Standing::Running });
+    assert_eq!(forwarded, [false, true, false, false, true]);
+    let nope = of(Side::Host, says(b"Nope", b"?"));
+    let (left, _) = machine::play_all(&table(text), &table(text), &[moves[1].clone(), nope]);
+    assert_eq!(left.standing, machine::Standing::HostBlamed);
 }
 
 // Device and monitor together

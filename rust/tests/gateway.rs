@@ -82,6 +82,17 @@ fn an_output_that_is_full_is_passed_on() {
 }
 
 #[test]
+fn a_broken_text_closes_the_line() {
+    let said = |text: &[u8]| [b"Say\0\0\0\0\0\x01\x01\0\0\0\x03", text].concat();
+    let whole = said("€".as_bytes());
+    for piece in [1, 9, 17, 100] {
+        let bytes = [&whole[..], &said(b"\xE2\x82?"), &whole].concat();
+        let (log, goes_on) = heard(SAYS, Party::Device, &bytes, piece);
+        assert_eq!((log.as_str(), goes_on), ("from Device: 17 bytes\na broken text\n", false), "{piece}");
+    }
+}
+
+#[test]
 fn what_cannot_become_a_message_closes_the_line() {
     for piece in [1, 5, 100] {
         let closed = ("no message from Device\n".to_string(), false);

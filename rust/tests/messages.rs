@@ -3,7 +3,7 @@
 
 use sojimu::message::{encode, front, has_label, label, refusal, Field, LONGEST_TEXT};
 use sojimu::second::message::{read, Message};
-use sojimu::second::random::{kind, label_of, number_of, Random};
+use sojimu::second::random::{broken_utf8, kind, label_of, number_of, utf8_bytes, Random};
 use sojimu::second::table::{legal_label, Kind, Label};
 use sojimu::{Party, Question, Table, Verdict, LONGEST_MESSAGE, MOST_FIELDS};
 
@@ -36,7 +36,7 @@ fn labels_of_names() {
     assert_eq!(label("Abcdefgh"), Some(u64::from_be_bytes(*b"Abcdefgh")));
 }
 
-/// A message's parts, at times such as no message has: another label, a field too many, a text too long.
+/// A message's parts, at times such as no message has: another label, a field too many, a text too long or broken.
 fn parts(random: &mut Random) -> (Label, Vec<(Kind, i64, Vec<u8>)>) {
     let label = label_of(name(random).as_bytes());
     let most = if random.one_in(8) { MOST_FIELDS + 2 } else { MOST_FIELDS };
@@ -45,7 +45,9 @@ fn parts(random: &mut Random) -> (Label, Vec<(Kind, i64, Vec<u8>)>) {
     let mut field = || match kind(random) {
         Kind::Text => {
             let length = if random.one_in(2) { longest } else { random.below(longest) };
-            (Kind::Text, length as i64, (0..length).map(|_| random.byte()).collect())
+            let broken = length > 0 && random.one_in(8);
+            let text = if broken { broken_utf8(random, length) } else { utf8_bytes(random, length) };
+            (Kind::Text, length as i64, text)
         }
         other => (other, number_of(random, other), Vec::new()),
     };
@@ -55,7 +57,7 @@ fn parts(random: &mut Random) -> (Label, Vec<(Kind, i64, Vec<u8>)>) {
 
 #[test]
 fn what_is_written_is_what_was_meant() {
-    let mut counts = [0; 17];
+    let mut counts = [0; 23];
     for seed in 0..8000 {
         let mut random = Random::new(seed);
         let (label, parts) = parts(&mut random);
@@ -99,8 +101,8 @@ fn what_is_written_is_what_was_meant() {
             }
         }
     }
-    println!("written {}, 13: {}, 14: {}, 16: {}", counts[0], counts[13], counts[14], counts[16]);
-    assert!([0, 13, 14, 16].into_iter().all(|question| counts[question] > 100));
+    println!("written {}, 13: {}, 14: {}, 22: {}, 16: {}", counts[0], counts[13], counts[14], counts[22], counts[16]);
+    assert!([0, 13, 14, 16, 22].into_iter().all(|question| counts[question] > 100));
 }
 
 #[test]
@@ -121,7 +123,7 @@ fn a_conversation_that_is_written() {
         let length = encode(label(name).unwrap(), fields, &mut message).unwrap();
         protocol.step(&mut state, side, &message[..length], &mut out)
     };
-    let said = say(Party::Device, "Say", &[Field::Text(b"hello"), Field::Int(-5), Field::Flag(true)]);
+    let said = say(Party::Device, "Say", &[Field::Text("glac\u{E9}".as_bytes()), Field::Int(-5), Field::Flag(true)]);
     assert_eq!(said, Verdict::Forwarded);
     assert_eq!(say(Party::Host, "Ok", &[]), Verdict::Forwarded);
     assert_eq!(say(Party::Host, "Ok", &[]), Verdict::Refused(Question(11)));

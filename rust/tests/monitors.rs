@@ -1,7 +1,7 @@
 //! The monitors that the benchmarks time are right: on random inputs they agree with the second implementation.
 
 use sojimu::bench::by_hand::{self, Pass, Place};
-use sojimu::bench::inputs::{scanner, small, Input};
+use sojimu::bench::inputs::{scanner, small, texts, Input};
 use sojimu::bench::plain;
 use sojimu::compare::{self, party, state_codes, verdict};
 use sojimu::second::random::*;
@@ -25,10 +25,14 @@ fn begun(lists: &table::Table) -> monitor::State {
 
 #[test]
 fn the_plain_monitor() {
+    let mut broken = 0;
     for seed in 0..400 {
         let mut random = Random::new(seed);
         let (states, branches) = *random.pick(&[(4, 6), (12, 20), (32, 128)]);
-        let lists = sound_table(&mut random, states, branches);
+        let mut lists = sound_table(&mut random, states, branches);
+        if random.one_in(2) {
+            lists = with_texts(&mut random, &lists);
+        }
         let columns = with_noise(&mut random, &Raw::of(&lists));
         let table = Table::from(&columns);
         let mut second = if random.one_in(2) { begun(&lists) } else { state_at(&mut random, &lists, 0) };
@@ -39,6 +43,7 @@ fn the_plain_monitor() {
             let wanted = monitor::step(&lists, &mut second, turn.side, &turn.message, &mut other);
             assert_eq!((one, out), (verdict(wanted), other), "seed {seed}");
             assert_eq!(state, state_codes(&second), "seed {seed}");
+            broken += usize::from(wanted == monitor::Verdict::Refused(22));
             let (device, host) = (waiting(&mut random, &lists), waiting(&mut random, &lists));
             let part = monitor::due(&lists, &second, &device, &host);
             let due = plain::due(&table, &state, &device, &host);
@@ -57,6 +62,8 @@ fn the_plain_monitor() {
         }
         assert!(!plain::sound(&Table::from(&any_raw(&mut random))), "seed {seed}");
     }
+    println!("refused by 22 {broken}");
+    assert!(broken > 20);
 }
 
 #[test]
@@ -87,21 +94,32 @@ fn the_plain_monitors_counts() {
 #[test]
 fn the_monitor_written_by_hand() {
     let lists = text::read(&small().text).unwrap();
+    let mut broken = 0;
     for seed in 0..400 {
         let mut random = Random::new(seed);
         let (mut place, mut second) = (Place::Asking, begun(&lists));
-        for turn in conversation(&mut random, &lists, 30, 6) {
+        for mut turn in conversation(&mut random, &lists, 30, 6) {
+            // No message of the protocol's has a text, and a broken one is refused all the same.
+            let branch = random.pick(&lists.branches).clone();
+            let message = reshaped(&mut random, &branch);
+            if let Some(message) = with_broken_text(&mut random, &message) {
+                turn.message = message.bytes();
+            }
             let (mut out, mut other) = (vec![0xEE; turn.room], vec![0xEE; turn.room]);
             let one = by_hand::step(&mut place, party(turn.side), &turn.message, &mut out);
             let wanted = monitor::step(&lists, &mut second, turn.side, &turn.message, &mut other);
             assert_eq!((one, out), (verdict(wanted), other), "seed {seed}");
+            broken += usize::from(wanted == monitor::Verdict::Refused(22));
         }
     }
+    println!("refused by 22 {broken}");
+    assert!(broken > 50);
 }
 
 #[test]
 fn the_scanners_monitor_written_by_hand() {
     let lists = text::read(&scanner().text).unwrap();
+    let mut broken = 0;
     for seed in 0..4000 {
         let mut random = Random::new(seed);
         let position = random.below(lists.states.len());
@@ -121,7 +139,10 @@ fn the_scanners_monitor_written_by_hand() {
         let wanted = batch::batch(&lists, &mut state, &device, &host, to_device, to_host);
         assert_eq!((one, place), (compare::batch(wanted), pass(&state)), "seed {seed}");
         assert_eq!(outputs, others, "seed {seed}");
+        broken += usize::from(wanted.last == Some(monitor::Verdict::Refused(22)));
     }
+    println!("refused by 22 {broken}");
+    assert!(broken > 20);
 }
 
 #[test]
@@ -131,7 +152,8 @@ fn the_inputs_are_of_the_sizes_they_say() {
     let largest = Input::all()[2].table();
     assert!(largest.fields.iter().all(|&count| count == 4));
     assert_eq!((scanner().table().states, scanner().table().branches), (6, 9));
-    for input in Input::all().into_iter().chain([scanner()]) {
+    assert_eq!((texts().table().states, texts().table().branches), (1, 1));
+    for input in Input::all().into_iter().chain([scanner(), texts()]) {
         let (start, round) = input.conversation();
         assert_eq!(start.standing, Standing::RUNNING);
         assert!(!round.is_empty());

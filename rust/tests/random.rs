@@ -4,14 +4,14 @@
 use sojimu::second::batch::{batch, Batch};
 use sojimu::second::brute::explore;
 use sojimu::second::fit::{fit, right, shows_no_fit, Answer};
-use sojimu::second::machine::{saying, says};
+use sojimu::second::machine::{fresh, play, saying, says, Move};
 use sojimu::second::mistaken::{depth_first, sorts_late};
-use sojimu::second::monitor::{due, judge, state_sound, step, Side, Standing, State, Verdict, MOST_COUNTED};
+use sojimu::second::monitor::{due, judge, state_sound, step, turn, Side, Standing, State, Verdict, MOST_COUNTED};
 use sojimu::second::random::*;
 use sojimu::second::report::report;
 use sojimu::second::shortest::{search, Way};
 use sojimu::second::substituted::{means, refused};
-use sojimu::second::table::{dual, sound, Raw, Sort, Table};
+use sojimu::second::table::{dual, sound, Kind, Raw, Sort, Table};
 use sojimu::second::tree::{split, tree};
 use sojimu::second::warning::warning;
 use sojimu::second::{message, text};
@@ -174,7 +174,7 @@ fn damaged_tables() {
 
 #[test]
 fn messages_of_any_sort() {
-    let mut counts = [0; 16];
+    let mut counts = [0; 23];
     for seed in 0..rounds(4000) {
         let mut random = Random::new(seed);
         let table = sound_table(&mut random, 6, 12);
@@ -185,6 +185,7 @@ fn messages_of_any_sort() {
                 counts[0] += 1;
                 assert_eq!(message.bytes(), bytes);
                 assert_eq!(message.length(), bytes.len());
+                assert!(message.well_formed());
                 // The reasons of the monitor and the machine's rule agree.
                 let judged = judge(&table, state, &message).ok().map(|b| &table.branches[b]);
                 assert_eq!(judged, saying(&table, state, &message));
@@ -192,7 +193,8 @@ fn messages_of_any_sort() {
             Err(question) => counts[usize::from(question)] += 1,
         }
         for (b, branch) in table.branches.iter().enumerate() {
-            assert!(says(branch, &spoken(&mut random, branch)));
+            let message = spoken(&mut random, branch);
+            assert!(says(branch, &message) && message.well_formed());
             assert!(!says(branch, &reshaped(&mut random, branch)) || !branch.fields.is_empty());
             let mut buffer = [0xEE; 300];
             let high = random.below(branch.fields.len() + 1);
@@ -202,8 +204,88 @@ fn messages_of_any_sort() {
             assert!(buffer[length..].iter().all(|&byte| byte == 0xEE));
         }
     }
-    println!("well formed {}, 13: {}, 14: {}, 15: {}", counts[0], counts[13], counts[14], counts[15]);
-    assert!(counts[0] > 1000 && counts[13] > 50 && counts[14] > 20 && counts[15] > 50);
+    println!("well formed {}, 13: {}, 14: {}, 15: {}, 22: {}", counts[0], counts[13], counts[14], counts[15], counts[22]);
+    assert!(counts[0] > 1000 && counts[13] > 50 && counts[14] > 20 && counts[15] > 50 && counts[22] > 50);
+}
+
+/// RFC 3629's ABNF, by its rows alone: `UTF8-octets = *( UTF8-char )`.
+fn octets(text: &[u8]) -> bool {
+    let begins = |row: &[(u8, u8)]| {
+        let bytes = text.get(..row.len())?;
+        let held = row.iter().zip(bytes).all(|((low, high), byte)| (low..=high).contains(&byte));
+        held.then(|| octets(&text[row.len()..]))
+    };
+    text.is_empty() || ROWS.into_iter().filter_map(begins).any(|rest| rest)
+}
+
+/// Is 22 asked of a message with this text, and nothing else against it?
+fn refused_by_22(text: &[u8]) -> bool {
+    let message =
+        message::Message { label: label_of(b"Say"), fields: vec![(Kind::Text, text.len() as i64)], texts: text.into() };
+    match message::read(&message.bytes()) {
+        Ok(read) => {
+            assert_eq!(read, message);
+            assert!(message.well_formed());
+            false
+        }
+        Err(question) => {
+            assert_eq!(question, 22);
+            assert!(!message.well_formed());
+            true
+        }
+    }
+}
+
+#[test]
+fn texts_are_those_of_the_grammar() {
+    for first in 0..=255 {
+        assert_eq!(refused_by_22(&[first]), !octets(&[first]));
+        for second in 0..=255 {
+            assert_eq!(refused_by_22(&[first, second]), !octets(&[first, second]));
+        }
+    }
+    let mut counts = [0; 2];
+    for seed in 0..rounds(40_000) {
+        let mut random = Random::new(seed);
+        let length = random.below(30);
+        let whole = utf8_bytes(&mut random, length);
+        assert!(whole.len() == length && octets(&whole) && !refused_by_22(&whole), "seed {seed}");
+        let damaged = damaged_utf8(&mut random, &whole);
+        assert_eq!(refused_by_22(&damaged), !octets(&damaged), "seed {seed}");
+        counts[usize::from(octets(&damaged))] += 1;
+        if length > 0 {
+            let broken = broken_utf8(&mut random, length);
+            assert!(broken.len() == length && !octets(&broken), "seed {seed}");
+        }
+    }
+    println!("damaged, not well formed {}, well formed {}", counts[0], counts[1]);
+    assert!(counts.iter().all(|&count| count > 1000));
+}
+
+#[test]
+fn a_broken_text_is_no_move() {
+    let (mut moves, mut borders) = (0, 0);
+    for seed in 0..rounds(2000) {
+        let mut random = Random::new(seed);
+        let table = endless_table(&mut random, 5, 8);
+        let table = with_texts(&mut random, &table);
+        let start = fresh(&table, &table);
+        let side = turn(table.states[0]).unwrap();
+        let branch = *random.pick(&table.branches_of(0));
+        let message = spoken(&mut random, &table.branches[branch]);
+        let Some(broken) = with_broken_text(&mut random, &message) else {
+            continue;
+        };
+        moves += 1;
+        assert!(octets(&message.texts) && broken.each_text().any(|text| !octets(text)), "seed {seed}");
+        borders += usize::from(octets(&broken.texts));
+        let target = table.branches[branch].target;
+        let (left, forwarded) = play(&table, &table, start, &Move { side, message });
+        assert_eq!((left.device, left.position, forwarded), (target, target, true), "seed {seed}");
+        assert_eq!(play(&table, &table, start, &Move { side, message: broken }), (start, false), "seed {seed}");
+    }
+    println!("moves {moves}, of which well formed when joined {borders}");
+    assert!(moves > 1000 && borders > 20);
 }
 
 #[test]
@@ -248,7 +330,7 @@ fn begun(table: &Table) -> State {
 
 #[test]
 fn conversations() {
-    let mut refused = [0; 17];
+    let mut refused = [0; 23];
     let mut blamed = [[0; 4]; 2];
     let mut forwarded = 0;
     for seed in 0..rounds(600) {
@@ -294,7 +376,7 @@ fn conversations() {
         }
     }
     println!("forwarded {forwarded}, refused {refused:?}, blamed {blamed:?}");
-    assert!(refused[10..].iter().all(|&count| count > 0), "{refused:?}");
+    assert!([10, 11, 12, 13, 14, 15, 16, 22].into_iter().all(|question| refused[question] > 0), "{refused:?}");
     assert!(blamed.iter().all(|counts| counts[1..].iter().all(|&count| count > 0)), "{blamed:?}");
 }
 
@@ -377,15 +459,18 @@ fn warnings_are_those_of_the_confidence_interval() {
 
 #[test]
 fn due_parts() {
-    let (mut found, mut nothing) = (0, 0);
+    let (mut found, mut nothing, mut broken) = (0, 0, 0);
     for seed in 0..rounds(4000) {
         let mut random = Random::new(seed);
-        let table = sound_table(&mut random, 6, 12);
+        let mut table = sound_table(&mut random, 6, 12);
+        if random.one_in(2) {
+            table = with_texts(&mut random, &table);
+        }
         let standing = *random.pick(&[Standing::Running, Standing::Running, Standing::DeviceBlamed, Standing::HostBlamed]);
         let state = State { position: random.below(table.states.len() + 1), standing, ..begun(&table) };
         let (device, host) = (waiting(&mut random, &table), waiting(&mut random, &table));
         let part = due(&table, &state, &device, &host);
-        // The first message is the only beginning of the bytes that 13, 14 and 15 do not refuse.
+        // The first message is the only beginning of the bytes that 13, 14 and 15 do not refuse; 22 may.
         let wanted = match table.states.get(state.position) {
             Some(Sort::Sends) if standing == Standing::Running => (Side::Device, first_message(&device)),
             Some(Sort::Receives) if standing == Standing::Running => (Side::Host, first_message(&host)),
@@ -394,17 +479,19 @@ fn due_parts() {
         assert_eq!((part.side, part.length), wanted, "seed {seed}");
         if part.length > 0 {
             found += 1;
+            let waiting = if part.side == Side::Device { &device } else { &host };
+            broken += usize::from(message::read(&waiting[..part.length]) == Err(22));
         } else {
             nothing += 1;
         }
     }
-    println!("due {found}, nothing due {nothing}");
-    assert!(found > 500 && nothing > 500);
+    println!("due {found}, of which with a broken text {broken}, nothing due {nothing}");
+    assert!(found > 500 && nothing > 500 && broken > 20);
 }
 
 #[test]
 fn batches() {
-    let (mut untried, mut forwarded, mut blamed) = (0, 0, 0);
+    let (mut untried, mut forwarded, mut blamed, mut refused) = (0, 0, 0, 0);
     for seed in 0..rounds(600) {
         let mut random = Random::new(seed);
         let table = if random.one_in(4) { sound_table(&mut random, 8, 20) } else { endless_table(&mut random, 8, 20) };
@@ -424,14 +511,25 @@ fn batches() {
             None => untried += 1,
             Some(Verdict::Forwarded) => forwarded += 1,
             Some(Verdict::Blamed(..)) => blamed += 1,
+            Some(Verdict::Refused(22)) => {
+                refused += 1;
+                // More bytes and more room do not help.
+                let device = [&device[whole.used_device..], &device].concat();
+                let host = [&host[whole.used_host..], &host].concat();
+                let (mut to_device, mut to_host) = (vec![0xEE; 9999], vec![0xEE; 9999]);
+                let more = batch(&table, &mut state, &device, &host, &mut to_device, &mut to_host);
+                let nothing =
+                    Batch { used_device: 0, used_host: 0, written_to_device: 0, written_to_host: 0, last: whole.last };
+                assert_eq!(more, nothing, "seed {seed}");
+            }
             Some(Verdict::Refused(question)) => panic!("seed {seed}: refused {question}"),
         }
         let mut again = start;
         let parts = with_little_room(&table, &mut again, &device, &host);
         assert_eq!((parts, again), (whole, state), "seed {seed}");
     }
-    println!("untried {untried}, forwarded {forwarded}, blamed {blamed}");
-    assert!(untried > 20 && forwarded > 100 && blamed > 100);
+    println!("untried {untried}, forwarded {forwarded}, blamed {blamed}, refused by 22 {refused}");
+    assert!(untried > 20 && forwarded > 100 && blamed > 100 && refused > 10);
 }
 
 /// The output opens with so many of the bytes that waited, and the rest of it is unchanged.
@@ -463,7 +561,7 @@ fn with_little_room(table: &Table, state: &mut State, device: &[u8], host: &[u8]
 }
 
 fn first_message(bytes: &[u8]) -> usize {
-    (0..=bytes.len()).find(|&length| message::read(&bytes[..length]).is_ok()).unwrap_or(0)
+    (0..=bytes.len()).find(|&length| matches!(message::read(&bytes[..length]), Ok(_) | Err(22))).unwrap_or(0)
 }
 
 #[test]

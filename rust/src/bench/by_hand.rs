@@ -159,6 +159,10 @@ pub fn scan(pass: &mut Pass, device: &[u8], host: &[u8], to_device: &mut [u8], t
         let Some((bytes, message)) = due else {
             break;
         };
+        if !message.texts_well_formed(bytes) {
+            batch.last = Some(Verdict::Refused(Question(22)));
+            break;
+        }
         let Some(output) = output.get_mut(..bytes.len()) else {
             batch.last = Some(Verdict::Refused(Question(16)));
             break;

@@ -1,6 +1,6 @@
-//! Protocols of three sizes and the scanner's, with a conversation that goes round in each.
+//! Protocols of three sizes, the scanner's and one of texts, with a conversation that goes round in each.
 
-use crate::proved::{Party, State, Table};
+use crate::proved::{message, Party, State, Table, LONGEST_MESSAGE};
 
 /// The setting of every conversation, in hundredths.
 pub const SETTING: u32 = 200;
@@ -53,6 +53,26 @@ pub fn largest() -> Input {
 pub fn scanner() -> Input {
     let text = include_bytes!("../../../examples/scanner/protocol.txt").to_vec();
     Input { name: "scanner", text, before: vec![0, 1], round: vec![2] }
+}
+
+/// 1 state, 1 branch: a device that says texts, as long as they may be.
+pub fn texts() -> Input {
+    Input { name: "texts", text: b"rec X.+{!Say(text[0..64]).X}".to_vec(), before: vec![], round: vec![0] }
+}
+
+/// The one branch's message of [`texts`] with a text of at most 64 bytes.
+///
+/// ```
+/// use sojimu::bench::inputs::said;
+///
+/// assert_eq!(said(b"hello").len(), 19);
+/// ```
+pub fn said(text: &[u8]) -> Vec<u8> {
+    let mut message = vec![0; LONGEST_MESSAGE];
+    let label = message::label("Say").expect("a legal label");
+    let length = message::encode(label, &[message::Field::Text(text)], &mut message).expect("a text");
+    message.truncate(length);
+    message
 }
 
 /// A choice with so many more choices in it, of which the first is as deep as the limit of what is open lets it be.

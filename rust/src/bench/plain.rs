@@ -100,6 +100,18 @@ impl Parsed<'_> {
     pub fn numbers(&self) -> impl Iterator<Item = i32> + '_ {
         self.numbers.chunks_exact(4).map(|bytes| i32::from_be_bytes([bytes[0], bytes[1], bytes[2], bytes[3]]))
     }
+
+    /// Question 22, of the bytes of the whole message: is every text well-formed UTF-8?
+    #[inline]
+    pub fn texts_well_formed(&self, bytes: &[u8]) -> bool {
+        let mut rest = &bytes[9 + 5 * self.kinds.len()..];
+        rest.is_empty()
+            || self.kinds.iter().zip(self.numbers()).filter(|(&kind, _)| kind == 1).all(|(_, length)| {
+                let (text, behind) = rest.split_at(length as usize);
+                rest = behind;
+                std::str::from_utf8(text).is_ok()
+            })
+    }
 }
 
 /// Questions 13 and 14 of bytes that may go on. Inline, for the scanner's monitor is faster so.
@@ -126,13 +138,15 @@ pub fn front(bytes: &[u8]) -> Result<Parsed<'_>, Question> {
     Ok(parsed)
 }
 
-/// Questions 13, 14 and 15.
+/// Questions 13, 14, 15 and 22.
 pub fn parse(bytes: &[u8]) -> Result<Parsed<'_>, Question> {
     let parsed = front(bytes)?;
-    if parsed.length == bytes.len() {
+    if parsed.length != bytes.len() {
+        Err(Question(15))
+    } else if parsed.texts_well_formed(bytes) {
         Ok(parsed)
     } else {
-        Err(Question(15))
+        Err(Question(22))
     }
 }
 

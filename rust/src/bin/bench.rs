@@ -4,13 +4,14 @@
 
 use sojimu::bench::by_hand::{self, Pass, Place};
 use sojimu::bench::clock::{race, Race};
-use sojimu::bench::inputs::{scanner, small, Input};
+use sojimu::bench::inputs::{said, scanner, small, texts, Input};
 use sojimu::bench::plain;
 use sojimu::bench::scans::Scan;
+use sojimu::message::{self, LONGEST_TEXT};
 use sojimu::second::random::label_of;
 use sojimu::second::table::{Branch, Raw, Sort, Table as Lists};
 use sojimu::second::{fit, text};
-use sojimu::{message, Fitting, Party, Table, Verdict};
+use sojimu::{Fitting, Party, Table, Verdict};
 use std::hint::black_box;
 
 /// How many messages a scan has.
@@ -38,6 +39,9 @@ fn main() {
     scan_by_hand().print();
     singly(&scanner(), SCAN).print();
     singly(&small(), SCAN / 2).print();
+    text_step().print();
+    text_refusal("ASCII", &[b'a'; LONGEST_TEXT]).print();
+    text_refusal("3 bytes", (" ".to_string() + &"€".repeat(LONGEST_TEXT / 3)).as_bytes()).print();
     println!("\ngrowth from small to largest: proved, other");
     for (call, proved, other) in grown {
         println!("{call:8} {proved:>9.1} {other:>9.1}");
@@ -301,12 +305,52 @@ fn sound(input: &Input) -> Row {
     )
 }
 
-/// Questions 13, 14 and 15 alone.
+/// One step with a text of 64 bytes, ASCII, against one with an empty text.
+fn text_step() -> Row {
+    let input = &texts();
+    let table = &input.table();
+    let (start, _) = input.conversation();
+    let (mut one, mut other) = (start, start);
+    let (mut out, mut room) = ([0; 300], [0; 300]);
+    let (long, empty) = (said(&[b'a'; LONGEST_TEXT]), said(b""));
+    Row::of(
+        "step",
+        input.name,
+        "the same, the text empty instead of 64 bytes, ASCII",
+        1,
+        &mut || {
+            black_box(table.step(black_box(&mut one), Party::Device, black_box(&long), &mut out));
+        },
+        &mut || {
+            black_box(table.step(black_box(&mut other), Party::Device, black_box(&empty), &mut room));
+        },
+    )
+}
+
+/// The questions of a message alone, of one with a text of 64 bytes, against 22 of the text as the standard library asks it.
+fn text_refusal(name: &'static str, text: &[u8]) -> Row {
+    assert_eq!(text.len(), LONGEST_TEXT);
+    let bytes = said(text);
+    Row::of(
+        "13-15,22",
+        name,
+        "from_utf8 of the 64 bytes of text alone",
+        1,
+        &mut || {
+            black_box(message::refusal(black_box(&bytes)));
+        },
+        &mut || {
+            black_box(std::str::from_utf8(black_box(text))).ok();
+        },
+    )
+}
+
+/// Questions 13, 14, 15 and 22 alone.
 fn refusal(input: &Input) -> Row {
     let (_, round) = input.conversation();
     let bytes = &round[0].1;
     Row::of(
-        "13 to 15",
+        "13-15,22",
         input.name,
         "plain monitor",
         1,

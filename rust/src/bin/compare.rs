@@ -5,10 +5,11 @@
 //!     cargo run --release --bin compare -- --seed S --kind K --case C          one case again
 //!
 //! The last line is `N passed, M failed`: a kind passes when the two agree in all of its cases; so does each question, each reason
-//! and whatever else is counted that was met a hundred times; and the run when it made 200,000 comparisons, with 20,000 devices
-//! that do not fit, of 5,000 of which the machine was explored whole. The status is 0 only when none failed.
+//! and whatever else is counted that was met a hundred times; and the run when it made 200,000 comparisons besides 1,000,000 texts
+//! of messages, with 20,000 devices that do not fit, of 5,000 of which the machine was explored whole. The status is 0 only when
+//! none failed.
 
-use sojimu::compare::{Batched, Disagreement, Failed, Kind, Named, Shared, Tally, KINDS};
+use sojimu::compare::{Batched, Disagreement, Encoded, Failed, Kind, Named, Shared, Tally, KINDS};
 use std::process::ExitCode;
 use std::time::Instant;
 
@@ -16,12 +17,14 @@ use std::time::Instant;
 const SEED: u64 = 1;
 /// How often each question and each reason must be met.
 const OFTEN: u64 = 100;
-/// How many comparisons a whole run must make.
+/// How many comparisons a whole run must make, besides those of texts of messages.
 const ENOUGH: u64 = 200_000;
 /// How many devices that do not fit a whole run must compare.
 const FAILING: u64 = 20_000;
 /// Of these, of how many the machine must have been explored whole.
 const EXPLORED: u64 = 5_000;
+/// How many texts of messages a whole run must look at as UTF-8.
+const TEXTS: u64 = 1_000_000;
 /// How many disagreements of a kind are shown.
 const SHOWN: usize = 3;
 
@@ -140,8 +143,10 @@ fn demands(tally: &Tally) -> Vec<(String, u64, u64)> {
     Batched::ALL.into_iter().zip(tally.batched).for_each(|(what, count)| often(what.into(), count));
     Shared::ALL.into_iter().zip(tally.shared).for_each(|(what, count)| often(what.into(), count));
     Failed::ALL.into_iter().zip(tally.failed).for_each(|(what, count)| often(what.into(), count));
+    Encoded::ALL.into_iter().zip(tally.encoded).for_each(|(what, count)| often(what.into(), count));
     all.push(("fails".into(), tally.fails, FAILING));
     all.push(("fails, explored".into(), tally.explored, EXPLORED));
-    all.push(("comparisons".into(), tally.comparisons, ENOUGH));
+    all.push(("utf8, texts".into(), tally.texts, TEXTS));
+    all.push(("comparisons".into(), tally.comparisons.saturating_sub(tally.texts), ENOUGH));
     all
 }

@@ -1,5 +1,5 @@
-//! Batches: some hundred messages that wait on both sides, right ones with early, damaged, forbidden and cut ones among them, from
-//! any state, with outputs of any room. Each is compared with the second implementation's, with the proved code's single steps,
+//! Batches: some hundred messages that wait on both sides, right ones with early, damaged, forbidden, cut ones and such with broken
+//! texts among them, from any state, with outputs of any room. Each is compared with the second implementation's, with the proved code's single steps,
 //! and with itself where the bytes come in two pieces.
 
 use super::both::{batch_codes, state, state_after, state_codes, Both};
@@ -7,7 +7,7 @@ use super::endings::{count, Batched};
 use super::steps::{anywhere, Odds, UNTOUCHED};
 use super::{both, show, Outcome, Tally};
 use crate::proved::{ffi, Batch, Party, Question, State, Table, Verdict};
-use crate::second::random::{endless_table, ragged, sound_table, state_at, walk, Random, Waiting};
+use crate::second::random::{endless_table, ragged, sound_table, state_at, walk, with_texts, Random, Waiting};
 use crate::second::table::{self, Raw};
 use crate::second::{batch, text};
 
@@ -94,6 +94,10 @@ fn protocol(random: &mut Random) -> table::Table {
         0 | 1 => example(random),
         2 => sound_table(random, 6, 12),
         3 => endless_table(random, 32, 128),
+        4 => {
+            let table = endless_table(random, 5, 8);
+            with_texts(random, &table)
+        }
         _ => endless_table(random, 5, 8),
     }
 }
@@ -176,7 +180,7 @@ fn by_single_steps(given: &Given, table: &Table) -> (Left, usize) {
 }
 
 /// The first bytes of either side come first, the rest later: together they come to what they come to at once. Where the first
-/// ones end in a blame, that is all.
+/// ones end in a blame, that is all; where 22 refuses one of them, it does so again.
 fn in_two_pieces(random: &mut Random, given: &Given, both: &Both, whole: &Left, tally: &mut Tally) -> Outcome {
     let Waiting { device, host } = &given.waiting;
     let (cut, other) = (random.below(device.len() + 1), random.below(host.len() + 1));
@@ -195,6 +199,8 @@ fn in_two_pieces(random: &mut Random, given: &Given, both: &Both, whole: &Left, 
         };
         let forwarded = |batch: &Batch| batch.written_to_device + batch.written_to_host > 0;
         tally.batch(Batched::Pieces, forwarded(&first) && forwarded(&more));
+        let refused = Some(Verdict::Refused(Question(22)));
+        tally.batch(Batched::Pieces22, first.last == refused && more.last == refused);
     }
     let show = || format!("first {cut} and {other} bytes, {}", given.show(both));
     tally.same("batch in two pieces", whole, &left, show)

@@ -24,6 +24,12 @@ pub enum Batched {
     FullToHost,
     /// 16 refused one after others had been forwarded to the same output.
     FullLater,
+    /// 22 refused a message of the device's.
+    Device22,
+    /// 22 refused a message of the host's.
+    Host22,
+    /// 22 refused one after others of its side had been forwarded, with more of its bytes behind.
+    Among22,
     /// The device was blamed for reason 1.
     Device1,
     /// The device was blamed for reason 2.
@@ -56,11 +62,13 @@ pub enum Batched {
     Broken,
     /// Messages of the first piece were forwarded, and then such as were whole with the second.
     Pieces,
+    /// 22 refused a message of the first piece, and again with the second.
+    Pieces22,
 }
 
 impl Batched {
     /// Each of them in a few letters, in their order.
-    pub const ALL: [&str; 23] = [
+    pub const ALL: [&str; 27] = [
         "batch, none",
         "batch, end",
         "batch, untried",
@@ -68,6 +76,9 @@ impl Batched {
         "batch, 16 dev",
         "batch, 16 host",
         "batch, 16 late",
+        "batch, 22 dev",
+        "batch, 22 host",
+        "batch, 22 late",
         "batch, dev 1",
         "batch, dev 2",
         "batch, dev 3",
@@ -84,6 +95,7 @@ impl Batched {
         "batch, cut",
         "batch, broken",
         "batch, pieces",
+        "batch, 22 both",
     ];
 }
 
@@ -104,6 +116,14 @@ pub fn count(given: &Given, both: &Both, left: &Left, forwarded: usize, tally: &
         (Some(Verdict::Refused(Question(10))), _) => {
             tally.batch(Batched::By10, any);
             tally.batch(Batched::Unknown, given.state.standing.0 > 2);
+        }
+        (Some(Verdict::Refused(Question(22))), Ok(Party::Host)) => {
+            tally.batch(Batched::Host22, true);
+            tally.batch(Batched::Among22, written_to_device > 0 && used_host < host.len());
+        }
+        (Some(Verdict::Refused(Question(22))), _) => {
+            tally.batch(Batched::Device22, true);
+            tally.batch(Batched::Among22, written_to_host > 0 && used_device < device.len());
         }
         (Some(Verdict::Refused(_)), Ok(Party::Host)) => {
             tally.batch(Batched::FullToDevice, true);

@@ -1,4 +1,4 @@
-//! Bytes as messages: what their front tells, 13, 14 and 15.
+//! Bytes as messages: what their front tells, 13, 14, 15 and 22.
 
 use super::both::codes;
 use super::{show, Outcome, Tally};

@@ -8,6 +8,7 @@
 mod batches;
 mod both;
 mod conversations;
+mod encodings;
 mod endings;
 mod failures;
 mod fits;
@@ -21,9 +22,11 @@ mod steps;
 mod tables;
 mod tally;
 mod texts;
+mod utf8;
 mod warnings;
 
 pub use both::{batch, party, state, state_after, state_codes, verdict, warning};
+pub use encodings::Encoded;
 pub use endings::Batched;
 pub use failures::Failed;
 pub use names::Named;
@@ -45,11 +48,16 @@ pub struct Kind {
 }
 
 /// Every kind of comparison.
-pub const KINDS: [Kind; 17] = [
+pub const KINDS: [Kind; 22] = [
     Kind { name: "texts", cases: 100_000, run: texts::case },
     Kind { name: "tables", cases: 1_600, run: tables::case },
     Kind { name: "messages", cases: 12_000, run: messages::case },
     Kind { name: "labels", cases: 12_000, run: labels::case },
+    Kind { name: "utf8-short", cases: 1, run: utf8::every_short },
+    Kind { name: "utf8-places", cases: 1, run: utf8::every_place },
+    Kind { name: "utf8-texts", cases: 100_000, run: utf8::texts },
+    Kind { name: "utf8-steps", cases: 4_000, run: utf8::steps },
+    Kind { name: "utf8-batches", cases: 4_000, run: utf8::batches },
     Kind { name: "steps", cases: 40_000, run: steps::case },
     Kind { name: "conversations", cases: 20, run: conversations::case },
     Kind { name: "text-talks", cases: 1_000, run: conversations::of_text },

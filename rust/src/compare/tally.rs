@@ -1,6 +1,6 @@
 //! What was compared.
 
-use super::{Batched, Failed, Named, Outcome, Shared};
+use super::{Batched, Encoded, Failed, Named, Outcome, Shared};
 use crate::proved::{Question, Verdict};
 use crate::second::table::LABEL_BYTES;
 use std::fmt::Debug;
@@ -11,7 +11,7 @@ pub struct Tally {
     /// Calls put through both.
     pub comparisons: u64,
     /// Refusals by the number of the question.
-    pub questions: [u64; 22],
+    pub questions: [u64; 23],
     /// Blames by the number of the reason.
     pub reasons: [u64; 4],
     /// Messages forwarded.
@@ -48,6 +48,10 @@ pub struct Tally {
     pub shared: [u64; Shared::ALL.len()],
     /// What is seen of devices that do not fit, in the order of [`Failed`].
     pub failed: [u64; Failed::ALL.len()],
+    /// Texts of messages that were looked at as UTF-8.
+    pub texts: u64,
+    /// What they are, and where 22 refused them, in the order of [`Encoded`].
+    pub encoded: [u64; Encoded::ALL.len()],
 }
 
 impl Tally {
@@ -62,6 +66,8 @@ impl Tally {
         self.batched.iter_mut().zip(other.batched).for_each(|(mine, its)| *mine += its);
         self.shared.iter_mut().zip(other.shared).for_each(|(mine, its)| *mine += its);
         self.failed.iter_mut().zip(other.failed).for_each(|(mine, its)| *mine += its);
+        self.encoded.iter_mut().zip(other.encoded).for_each(|(mine, its)| *mine += its);
+        self.texts += other.texts;
         self.forwarded += other.forwarded;
         self.broken += other.broken;
         self.label_there += other.label_there;
@@ -115,6 +121,11 @@ impl Tally {
     /// Counts a device that does not fit of which this holds, if it does.
     pub(super) fn fail(&mut self, what: Failed, holds: bool) {
         self.failed[what as usize] += u64::from(holds);
+    }
+
+    /// Counts a text that is so as UTF-8, or what came of one, if it did.
+    pub(super) fn encode(&mut self, what: Encoded, holds: bool) {
+        self.encoded[what as usize] += u64::from(holds);
     }
 
     /// Counts a verdict.

@@ -33,7 +33,8 @@ impl Table {
     /// unchanged. Asks 9 and 10.
     ///
     /// All is as by [`Table::due`] and [`Table::step`], each step given what is left of its output; but 9 is asked once. A message
-    /// that 16 refuses is not used, and what was forwarded before it stays so: make room, and go on with the rest.
+    /// that 16 refuses is not used, and what was forwarded before it stays so: make room, and go on with the rest. Nor is one that
+    /// 22 refuses, and it stays due: every batch stops there again, whatever follows, until the gateway drops it or closes the line.
     ///
     /// ```
     /// use sojimu::{Party, Question, Reason, Table, Verdict};

@@ -1,16 +1,18 @@
-//! The questions that are asked of bytes alone: 13, 14 and 15, what a message's front tells, and writing a message.
+//! The questions that are asked of bytes alone: 13, 14, 15 and 22, what a message's front tells, and writing a message.
 //!
 //! A message is a label (8 bytes, filled up with 0x00), a field count n (1 byte), n kinds (1 byte each), n numbers (4 bytes each,
-//! two's complement, high byte first) and the texts' bytes. [`label`] and [`encode`] are Rust; they are tested, not proved.
+//! two's complement, high byte first) and the texts' bytes, each text well-formed UTF-8 by itself. [`label`] and [`encode`] are
+//! Rust; they are tested, not proved.
 
 use super::{ffi, Question, MOST_FIELDS};
 
 /// A buffer of so many bytes holds every message.
 pub const LONGEST_MESSAGE: usize = 285;
-/// The most bytes of a text in a message.
+/// The most bytes of a text in a message, however many characters they are.
 pub const LONGEST_TEXT: usize = 64;
 
-/// Questions 13 and 14 of bytes that may go on or stop before the texts' end: the length that the message announces.
+/// Questions 13 and 14 of bytes that may go on or stop before the texts' end: the length that the message announces. The texts'
+/// bytes are not looked at.
 ///
 /// ```
 /// use sojimu::{message, Question};
@@ -29,7 +31,8 @@ pub fn front(bytes: &[u8]) -> Result<usize, Question> {
 }
 
 /// Can nothing that follows make a message of these bytes? Nine of them have an illegal label or a count above 4, or both arrays
-/// are whole and 14 says no. What is not broken either has a front or may get one: 29 bytes always tell.
+/// are whole and 14 says no. What is not broken either has a front or may get one: 29 bytes always tell. The texts' bytes are not
+/// looked at.
 ///
 /// ```
 /// use sojimu::message::broken;
@@ -44,13 +47,15 @@ pub fn broken(bytes: &[u8]) -> bool {
     ffi::broken(bytes)
 }
 
-/// Questions 13, 14 and 15: the first that gets a no.
+/// Questions 13, 14, 15 and 22: the first that gets a no.
 ///
 /// ```
 /// use sojimu::{message, Question};
 ///
 /// assert_eq!(message::refusal(b"Ok\0\0\0\0\0\0\0"), None);
 /// assert_eq!(message::refusal(b"Ok\0\0\0\0\0\0\0!"), Some(Question(15)));
+/// assert_eq!(message::refusal(b"Say\0\0\0\0\0\x01\x01\0\0\0\x02\xC3\xA9"), None);
+/// assert_eq!(message::refusal(b"Say\0\0\0\0\0\x01\x01\0\0\0\x02\xC3("), Some(Question(22)));
 /// ```
 #[inline]
 pub fn refusal(bytes: &[u8]) -> Option<Question> {
@@ -118,7 +123,7 @@ pub fn label(name: &str) -> Option<u64> {
 pub enum Field<'a> {
     /// An int of this value.
     Int(i32),
-    /// A text of these bytes.
+    /// A text of these bytes, which must be well-formed UTF-8.
     Text(&'a [u8]),
     /// A flag.
     Flag(bool),
@@ -136,8 +141,8 @@ impl<'a> Field<'a> {
 }
 
 /// Writes the message of a label and its fields at the start of `out` and gives its length. A message that could not be one is
-/// refused by the question that would refuse it: 13 for its label or more than four fields, 14 for a text of more than 64 bytes.
-/// Then 16 is asked; a refusal leaves `out` unchanged, as the rest of it always is.
+/// refused by the question that would refuse it: 13 for its label or more than four fields, 14 for a text of more than 64 bytes, 22
+/// for one that is not well-formed UTF-8. Then 16 is asked; a refusal leaves `out` unchanged, as the rest of it always is.
 ///
 /// ```
 /// use sojimu::message::{encode, label, Field};
@@ -149,6 +154,7 @@ impl<'a> Field<'a> {
 /// assert_eq!(&out, b"Ask\0\0\0\0\0\x01\0\0\0\0\x64\xEE");
 /// assert_eq!(encode(0, &[], &mut out), Err(Question(13)));
 /// assert_eq!(encode(ask, &[Field::Text(&[0x20; 65])], &mut out), Err(Question(14)));
+/// assert_eq!(encode(ask, &[Field::Text(b"\xC3")], &mut out), Err(Question(22)));
 /// assert_eq!(encode(ask, &[Field::Flag(true)], &mut out[..13]), Err(Question(16)));
 /// ```
 pub fn encode(label: u64, fields: &[Field<'_>], out: &mut [u8]) -> Result<usize, Question> {
@@ -158,6 +164,9 @@ pub fn encode(label: u64, fields: &[Field<'_>], out: &mut [u8]) -> Result<usize,
     let text = |field: &Field<'_>| field.parts().2.len();
     if fields.iter().any(|field| text(field) > LONGEST_TEXT) {
         return Err(Question(14));
+    }
+    if fields.iter().any(|field| std::str::from_utf8(field.parts().2).is_err()) {
+        return Err(Question(22));
     }
     let length = 9 + 5 * fields.len() + fields.iter().map(text).sum::<usize>();
     let out = out.get_mut(..length).ok_or(Question(16))?;

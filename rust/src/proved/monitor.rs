@@ -149,7 +149,8 @@ impl Table {
         }
     }
 
-    /// One step: a message of one side is forwarded into `out`, refused or blamed, and the state advanced. Asks 9 to 16.
+    /// One step: a message of one side is forwarded into `out`, refused or blamed, and the state advanced. Asks 9 to 15, then 22,
+    /// then 16. Nobody is blamed for a text that is not well-formed UTF-8, also where the protocol forbids the message.
     ///
     /// ```
     /// use sojimu::{Party, Question, Reason, Table, Verdict};
@@ -194,7 +195,8 @@ impl Table {
     }
 
     /// The due message of the bytes that wait on either side: the first of the side whose turn it is. It is empty, at that side's
-    /// start, when 13 or 14 would refuse it or it is not all there; when 9, 10 or 11 would, at the device's start.
+    /// start, when 13 or 14 would refuse it or it is not all there; when 9, 10 or 11 would, at the device's start. It is cut by its
+    /// length: a step may yet refuse it by 22.
     ///
     /// ```
     /// use sojimu::{Party, Table};

@@ -12,7 +12,7 @@ use std::fmt;
 /// ```
 #[derive(Clone, Copy, Debug, PartialEq, Eq, PartialOrd, Ord, Hash)]
 pub struct Question(
-    /// The number: 1 to 21.
+    /// The number: 1 to 22.
     pub u8,
 );
 
@@ -23,7 +23,8 @@ impl Question {
     /// use sojimu::Question;
     ///
     /// assert_eq!(Question(21).words(), "is the setting 1 to 1000?");
-    /// assert_eq!(Question(22).words(), "");
+    /// assert_eq!(Question(22).words(), "is every text well-formed UTF-8?");
+    /// assert_eq!(Question(23).words(), "");
     /// ```
     pub fn words(self) -> &'static str {
         match self.0 {
@@ -48,6 +49,7 @@ impl Question {
             19 => "is the share 1 to 1000?",
             20 => "has the choice no shares, or one for each branch, which add to 1000?",
             21 => "is the setting 1 to 1000?",
+            22 => "is every text well-formed UTF-8?",
             _ => "",
         }
     }

@@ -58,9 +58,9 @@ fn forwarded(device: &Table, protocol: &Table, has: &Branch, allows: &Branch) ->
     settled(device, protocol, on)
 }
 
-/// One move: what it leaves, and whether it was forwarded.
+/// One move: what it leaves, and whether it was forwarded. A message that is not well formed is no move, and does nothing.
 pub fn play(device: &Table, protocol: &Table, machine: Machine, one: &Move) -> (Machine, bool) {
-    if machine.standing != Standing::Running {
+    if machine.standing != Standing::Running || !one.message.well_formed() {
         return (machine, false);
     }
     let has = || saying(device, machine.device, &one.message);

@@ -1,4 +1,4 @@
-//! Messages: questions 13, 14 and 15 over any bytes, and messages made from a branch (9, 18, 16).
+//! Messages: questions 13, 14, 15 and 22 over any bytes, and messages made from a branch (9, 18, 16).
 //!
 //! Label (8 bytes), field count n (1 byte), n kinds (1 byte each), n numbers (4 bytes each, high byte first), the texts' bytes.
 
@@ -26,8 +26,36 @@ impl Message {
 
     /// How many bytes label, count, kinds, numbers and texts take.
     pub fn length(&self) -> usize {
-        let texts: usize = self.fields.iter().map(|&(kind, number)| text_bytes(kind, number)).sum();
-        HEAD_BYTES + 5 * self.fields.len() + texts
+        HEAD_BYTES + 5 * self.fields.len() + self.announced()
+    }
+
+    /// How many bytes of text the fields announce.
+    fn announced(&self) -> usize {
+        self.fields.iter().map(|&(kind, number)| text_bytes(kind, number)).sum()
+    }
+
+    /// The bytes of each field's text, in field order; of a field that is no text, none. Texts that are cut have what is there.
+    pub fn each_text(&self) -> impl Iterator<Item = &[u8]> {
+        let mut rest = &self.texts[..];
+        self.fields.iter().map(move |&(kind, number)| {
+            let (text, behind) = rest.split_at(text_bytes(kind, number).min(rest.len()));
+            rest = behind;
+            text
+        })
+    }
+
+    /// Is it a message that 13, 14, 15 and 22 do not refuse?
+    pub fn well_formed(&self) -> bool {
+        legal_label(&self.label)
+            && self.fields.len() <= MOST_FIELDS
+            && self.fields.iter().all(|&(kind, number)| kind.holds(number))
+            && self.texts.len() == self.announced()
+            && self.texts_well_formed()
+    }
+
+    /// "Every text field must be well-formed UTF-8 as RFC 3629 has it": each by itself, for a field is what must be so.
+    fn texts_well_formed(&self) -> bool {
+        self.each_text().all(|text| std::str::from_utf8(text).is_ok())
     }
 
     /// The message's bytes.
@@ -76,7 +104,7 @@ pub fn front(bytes: &[u8]) -> Result<Message, u8> {
     Ok(Message { label, fields, texts: Vec::new() })
 }
 
-/// Questions 13, 14 and 15: the message that the bytes are.
+/// Questions 13, 14, 15 and 22: the message that the bytes are.
 pub fn read(bytes: &[u8]) -> Result<Message, u8> {
     let mut message = front(bytes)?;
     // 15. Is the length exactly what this gives?
@@ -84,6 +112,10 @@ pub fn read(bytes: &[u8]) -> Result<Message, u8> {
         return Err(15);
     }
     message.texts = bytes[HEAD_BYTES + 5 * message.fields.len()..].to_vec();
+    // 22. "Refused: 22 for a text that isn't, after 15 and before 16."
+    if !message.texts_well_formed() {
+        return Err(22);
+    }
     Ok(message)
 }
 

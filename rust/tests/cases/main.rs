@@ -31,7 +31,7 @@ fn tables() {
 
 #[test]
 fn messages() {
-    run("messages", 110);
+    run("messages", 350);
 }
 
 #[test]
@@ -41,7 +41,7 @@ fn texts() {
 
 #[test]
 fn monitor() {
-    run("monitor", 600);
+    run("monitor", 650);
 }
 
 #[test]
@@ -56,12 +56,12 @@ fn reports() {
 
 #[test]
 fn batches() {
-    run("batches", 90);
+    run("batches", 120);
 }
 
 #[test]
 fn counts() {
-    run("counts", 90);
+    run("counts", 110);
 }
 
 #[test]

@@ -1,18 +1,19 @@
 //! Messages of a state, out of range, of another shape, damaged; and conversations.
 
 use super::tables::branch_for;
-use super::{fields, kind, label, number_of, Random};
+use super::{fields, kind, label, number_of, utf8_bytes, with_broken_text, Random};
 use crate::second::message::Message;
 use crate::second::monitor::{step, turn, Side, State, GREATEST_SETTING};
 use crate::second::table::{Branch, Kind, Label, Table, LABEL_BYTES, MOST_FIELDS};
 
 fn message_of(random: &mut Random, label: Label, fields: Vec<(Kind, i64)>) -> Message {
-    let length = fields.iter().map(|&(kind, number)| if kind == Kind::Text { number as usize } else { 0 }).sum();
-    let texts = (0..length).map(|_| random.byte()).collect();
+    let texts = fields.iter().filter(|&&(kind, _)| kind == Kind::Text);
+    let texts = texts.flat_map(|&(_, length)| utf8_bytes(random, length as usize)).collect();
     Message { label, fields, texts }
 }
 
-/// A message that the branch says: numbers within its ranges, the ends more often than chance has it, any bytes as texts.
+/// A message that the branch says: numbers within its ranges, the ends more often than chance has it, texts of any well-formed
+/// UTF-8.
 pub fn spoken(random: &mut Random, branch: &Branch) -> Message {
     let fields = branch
         .fields
@@ -91,7 +92,7 @@ pub fn damaged_message(random: &mut Random, bytes: &[u8]) -> Vec<u8> {
 }
 
 /// Bytes of any sort for a state of a sound table: mostly what one of its branches says, else out of range, of another shape, of
-/// another state, damaged, or any bytes.
+/// another state, with a broken text, damaged, or any bytes.
 pub fn message_for(random: &mut Random, table: &Table, state: usize) -> Vec<u8> {
     let own = table.branches_of(state);
     let faulty = random.one_in(2);
@@ -112,20 +113,27 @@ pub fn faulty_message(random: &mut Random, table: &Table, state: usize) -> Vec<u
     } else {
         branch_for(random, table, state)
     };
-    match random.below(9) {
-        0 | 1 => out_of_range(random, &branch).bytes(),
-        2 => reshaped(random, &branch).bytes(),
+    let message = match random.below(10) {
+        0 | 1 => out_of_range(random, &branch),
+        2 => reshaped(random, &branch),
         3 => {
             let other = if table.branches.is_empty() { branch } else { random.pick(&table.branches).clone() };
-            spoken(random, &other).bytes()
+            spoken(random, &other)
         }
-        4 => any_message(random).bytes(),
+        4 => any_message(random),
         5..=7 => {
             let bytes = spoken(random, &branch).bytes();
-            damaged_message(random, &bytes)
+            return damaged_message(random, &bytes);
         }
-        _ => random.bytes(40),
-    }
+        8 => {
+            let message = spoken(random, &branch);
+            return with_broken_text(random, &message).unwrap_or(message).bytes();
+        }
+        _ => return random.bytes(40),
+    };
+    // What is forbidden may have a broken text, too.
+    let broken = if random.one_in(4) { with_broken_text(random, &message) } else { None };
+    broken.unwrap_or(message).bytes()
 }
 
 /// What one side brings: a message and the room of the output.

@@ -11,6 +11,7 @@ mod shares;
 mod states;
 mod tables;
 mod texts;
+mod utf8;
 mod ways;
 
 pub use batches::*;
@@ -21,6 +22,7 @@ pub use shares::*;
 pub use states::*;
 pub use tables::*;
 pub use texts::*;
+pub use utf8::*;
 pub use ways::*;
 
 use super::table::{Field, Kind, Label, LABEL_BYTES, LONGEST_TEXT};
