@@ -42,6 +42,7 @@
  *   19  Is the share 1 to 1000? (Asked after 6.)
  *   20  Has the choice no shares, or one for each branch, which add to 1000? (Asked after 8, at its closing brace.)
  *   21  Is the setting 1 to 1000? (Asked after 9.)
+ *   22  Is every text, by itself, well-formed UTF-8? (Asked after 15, before 16.)
  */
 #ifndef SOJIMU_H
 #define SOJIMU_H
@@ -361,9 +362,9 @@ static inline uint64_t sojimu_label(const char *name)
 /* ---- messages
  *
  * A message: label (8 bytes, filled up with 0x00), field count n (1 byte), n kinds (1 byte each), n numbers (4 bytes each, two's
- * complement, high byte first), then the texts' bytes in field order. */
+ * complement, high byte first), then the texts' bytes in field order, each text well-formed UTF-8 by itself. Lengths are bytes. */
 
-/* 13 and 14 of bytes that may go on after the message or stop within it. */
+/* 13 and 14 of bytes that may go on after the message or stop within it. The texts' bytes are not looked at. */
 static inline struct sojimu_head sojimu_front(const uint8_t *bytes, size_t length)
 {
     return sojimu_raw_front(sojimu_lent(bytes, length), length);
@@ -376,7 +377,7 @@ static inline bool sojimu_broken(const uint8_t *bytes, size_t length)
     return sojimu_raw_broken(sojimu_lent(bytes, length), length);
 }
 
-/* The first of 13, 14 and 15 that refuses a message, or 0. */
+/* The first of 13, 14, 15 and 22 that refuses a message, or 0. */
 static inline uint32_t sojimu_refusal(const uint8_t *bytes, size_t length)
 {
     return sojimu_raw_refusal(sojimu_lent(bytes, length), length);
@@ -429,32 +430,37 @@ static inline void sojimu_put(uint8_t *out, uint64_t number, size_t length)
 }
 
 /* Any message: a label and up to four fields. It opens `out`, the rest of which is unchanged. Asks 13 of the label and the count,
- * 14 of the fields (of a text that it has at most 64 bytes), 16. */
+ * 14 of the fields (of a text that it has at most 64 bytes), 22 of the texts, 16. */
 static inline struct sojimu_made sojimu_encode(uint64_t label, const struct sojimu_field *fields, size_t count, uint8_t *out,
                                                size_t room)
 {
     struct sojimu_made made = {13, 0};
     struct sojimu_head head;
-    uint8_t front[SOJIMU_FRONT];
+    uint8_t message[SOJIMU_MESSAGE];
     size_t f, i, at = 9 + 5 * count;
     if (count > SOJIMU_FIELDS)
         return made;
-    sojimu_put(front, label, 8);
-    sojimu_put(front + 8, count, 1);
+    sojimu_put(message, label, 8);
+    sojimu_put(message + 8, count, 1);
     for (f = 0; f < count; f++) {
-        sojimu_put(front + 9 + f, fields[f].kind < 255 ? fields[f].kind : 255, 1);
-        sojimu_put(front + 9 + count + 4 * f, fields[f].number, 4);
+        sojimu_put(message + 9 + f, fields[f].kind < 255 ? fields[f].kind : 255, 1);
+        sojimu_put(message + 9 + count + 4 * f, fields[f].number, 4);
     }
-    head = sojimu_raw_front(front, at);
-    made.question = head.question == 0 && room < head.length ? 16 : head.question;
+    head = sojimu_raw_front(message, at);
+    made.question = head.question;
+    if (made.question != 0)
+        return made;
+    for (f = 0; f < count; f++)
+        for (i = 0; fields[f].kind == SOJIMU_KIND_TEXT && i < fields[f].number; i++)
+            message[at++] = fields[f].text[i];
+    made.question = sojimu_raw_refusal(message, at);
+    if (made.question == 0 && room < at)
+        made.question = 16;
     if (made.question != 0)
         return made;
     made.length = head.length;
     for (i = 0; i < at; i++)
-        out[i] = front[i];
-    for (f = 0; f < count; f++)
-        for (i = 0; fields[f].kind == SOJIMU_KIND_TEXT && i < fields[f].number; i++)
-            out[at++] = fields[f].text[i];
+        out[i] = message[i];
     return made;
 }
 
@@ -477,10 +483,10 @@ static inline struct sojimu_turn sojimu_turn(const struct sojimu_table *table, c
 }
 
 /* One step. `side` says who sends the message; any number but SOJIMU_DEVICE and SOJIMU_HOST is no side's turn. Asks 9, 10, 11,
- * 12, 13, 14, 15, 16; on a refusal state and `out` are unchanged. Else the message is judged against the position's branches. If
- * one allows it, it is forwarded: its bytes open `out`, the rest of which is unchanged, the position moves on, and n of its choice
- * and k of its branch rise by one, unless n is 10,000. If none does, the sender is blamed, for ever: the standing says so, and
- * position, counts and `out` are unchanged. */
+ * 12, 13, 14, 15, 22, 16; on a refusal state and `out` are unchanged. Else the message is judged against the position's branches.
+ * If one allows it, it is forwarded: its bytes open `out`, the rest of which is unchanged, the position moves on, and n of its
+ * choice and k of its branch rise by one, unless n is 10,000. If none does, the sender is blamed, for ever: the standing says so,
+ * and position, counts and `out` are unchanged. */
 static inline struct sojimu_verdict sojimu_step(const struct sojimu_table *table, struct sojimu_state *state, uint32_t side,
                                                 const uint8_t *message, size_t length, uint8_t *out, size_t room)
 {
@@ -492,7 +498,8 @@ static inline struct sojimu_verdict sojimu_step(const struct sojimu_table *table
  * or a blame falls. The device's messages go to `to_host`, the host's to `to_device`, one behind the other. Asks 9 and 10, and on
  * a refusal by them nothing is changed. All that it does is what sojimu_due and sojimu_step do one after another, each step given
  * what is left of its output; but 9 is asked once. A step that 16 refuses changes nothing, and its bytes are not used: make room,
- * and call again with the rest. Either way the first used_.. bytes of a side are done with, and the others wait. */
+ * and call again with the rest. Nor are those of a message that 22 refuses, and every further batch stops there too: drop it (its
+ * length is sojimu_front's), or close the line. Either way the first used_.. bytes of a side are done with, and the others wait. */
 static inline struct sojimu_batch sojimu_batch(const struct sojimu_table *table, struct sojimu_state *state, const uint8_t *device,
                                                size_t device_length, const uint8_t *host, size_t host_length,
                                                uint8_t *to_device, size_t device_room, uint8_t *to_host, size_t host_room)
@@ -502,9 +509,9 @@ static inline struct sojimu_batch sojimu_batch(const struct sojimu_table *table,
                             sojimu_lent(to_host, host_room), host_room);
 }
 
-/* The due message, from the bytes that wait on either side: the first message of the side whose turn it is. Length 0 when 13 or
- * 14 would refuse or the message is not all there; side SOJIMU_DEVICE and length 0 when 9, 10 or 11 would, of which sojimu_turn
- * tells the number. */
+/* The due message, from the bytes that wait on either side: the first message of the side whose turn it is, cut by its length: 22
+ * is not asked. Length 0 when 13 or 14 would refuse or the message is not all there; side SOJIMU_DEVICE and length 0 when 9, 10 or
+ * 11 would, of which sojimu_turn tells the number. */
 static inline struct sojimu_due sojimu_due(const struct sojimu_table *table, const struct sojimu_state *state,
                                            const uint8_t *device, size_t device_length, const uint8_t *host, size_t host_length)
 {

@@ -64,6 +64,9 @@ pub fn run(log: &mut dyn Write) -> io::Result<()> {
     // A device that speaks another language.
     let mut strange = Conversation::begin(&protocol);
     assert!(!hear(&protocol, &mut strange, Party::Device, b"GET / HTTP/1.1\r\n", log)?);
+    // One that names a grade in another encoding.
+    let mut encoded = Conversation::begin(&protocol);
+    assert!(!hear(&protocol, &mut encoded, Party::Device, b"Grade\0\0\0\x01\x01\0\0\0\x01\xE4", log)?);
     Ok(())
 }
 
@@ -128,19 +131,14 @@ fn pump(protocol: &Table, talk: &mut Conversation, log: &mut dyn Write) -> io::R
         match batch.last {
             // An output was full. What it held is passed on, so it has room again.
             Some(Verdict::Refused(Question(16))) => {}
-            // A text is no UTF-8, and stays so, whatever follows. Nobody is blamed.
-            Some(Verdict::Refused(Question(22))) => {
-                writeln!(log, "a broken text")?;
-                return Ok(false);
-            }
             Some(Verdict::Blamed(party, reason)) => {
                 writeln!(log, "{party:?} blamed, reason {}", reason.number())?;
                 return Ok(false);
             }
-            // None is due. Of 9 and 10 `turn` tells too.
-            _ => {
+            // None is due, or 22 refuses the one that is. Of 9 and 10 `turn` tells too.
+            last => {
                 page(protocol, &talk.state, log)?;
-                return may_go_on(protocol, talk, log);
+                return may_go_on(protocol, talk, last, log);
             }
         }
     }
@@ -157,12 +155,13 @@ fn page(protocol: &Table, state: &State, log: &mut dyn Write) -> io::Result<()> 
     Ok(())
 }
 
-/// Nothing is due. Can it be once more bytes have come?
-fn may_go_on(protocol: &Table, talk: &mut Conversation, log: &mut dyn Write) -> io::Result<bool> {
+/// Nothing more is passed on. Can it be once more bytes have come? Not behind bytes that never are a message, or a text that is
+/// no UTF-8.
+fn may_go_on(protocol: &Table, talk: &mut Conversation, last: Option<Verdict>, log: &mut dyn Write) -> io::Result<bool> {
     let Ok(side) = protocol.turn(&talk.state) else {
         return Ok(false);
     };
-    if message::broken(talk.waiting(side)) {
+    if last == Some(Verdict::Refused(Question(22))) || message::broken(talk.waiting(side)) {
         writeln!(log, "no message from {side:?}")?;
         return Ok(false);
     }

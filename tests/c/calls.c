@@ -101,7 +101,10 @@ static void questions(void)
     CHECK(sojimu_refusal(m, n) == 14);
     n = with_number(m, "Say", SOJIMU_KIND_TEXT, 3);
     CHECK(sojimu_refusal(m, n) == 15 && sojimu_front(m, n).length == n + 3);
+    memcpy(m + n, "\xE2\x82\xAC", 3);
     CHECK(sojimu_refusal(m, n + 3) == 0);
+    m[n] = 0xAC;
+    CHECK(sojimu_refusal(m, n + 3) == 22);
     with_number(m, "ask", SOJIMU_KIND_INT, 0);
     CHECK(sojimu_refusal(m, 14) == 13);
 }

@@ -67,13 +67,15 @@ static size_t receive(struct conversation *talk, uint32_t side, const char *byte
     return taken;
 }
 
-/* Nothing more is due. Can it be once more bytes have come? */
-static bool may_go_on(const struct sojimu_table *protocol, const struct conversation *talk)
+/* Nothing more is passed on. Can it be once more bytes have come? Not behind bytes that never are a message, or a text that is no
+ * UTF-8. */
+static bool may_go_on(const struct sojimu_table *protocol, const struct conversation *talk, struct sojimu_verdict last)
 {
     const struct sojimu_turn turn = sojimu_turn(protocol, &talk->state);
     if (turn.question != 0)
         return false;
-    if (sojimu_broken(talk->waiting[turn.side], talk->length[turn.side])) {
+    if ((last.outcome == SOJIMU_REFUSED && last.question == 22) ||
+        sojimu_broken(talk->waiting[turn.side], talk->length[turn.side])) {
         printf("no message from %s\n", names[turn.side]);
         return false;
     }
@@ -124,7 +126,7 @@ static bool pump(const struct sojimu_table *protocol, struct conversation *talk)
         return false;
     }
     page(protocol, &talk->state);
-    return may_go_on(protocol, talk); /* which asks 9 and 10, too */
+    return may_go_on(protocol, talk, last); /* which asks 9 and 10, too */
 }
 
 /* A line has bytes: takes them and passes on what is due, until all are taken. Says whether the conversation goes on. */
@@ -170,6 +172,10 @@ int main(void)
     /* A device that speaks another language. */
     struct conversation strange = {.state = started.state};
     if (hear(&protocol, &strange, SOJIMU_DEVICE, "GET / HTTP/1.1\r\n", 16))
+        return 1;
+    /* One that names a grade in another encoding. */
+    struct conversation encoded = {.state = started.state};
+    if (hear(&protocol, &encoded, SOJIMU_DEVICE, "Grade\0\0\0\1\1\0\0\0\1\344", 15))
         return 1;
     return 0;
 }
