@@ -8,7 +8,7 @@ use native.Mathlib.Nat.{div-div-eq-div-mul}
 use native.Mathlib.Omega.{arith}
 use lib.Dec.{leb}
 use borrow.Author.Tests.{leb-true, leb-false, le-leb, lt-leb}
-use Rattle.utf8.specs.Scalars.{scalar, encode}
+use Rattle.utf8.specs.Scalars.{last-point, scalar, encode}
 use Rattle.utf8.proofs.Leads.{lt-or-ge, both}
 
 abbrev pub two : ℕ → List ℕ
@@ -90,17 +90,17 @@ module _ (w x y z : ℕ) (hx : x < 64) (hy : y < 64) (hz : z < 64) where
 
 pub scalar-low : (n : ℕ) → n < 0xD800 → scalar n ≡ true
 unfolding scalar
-scalar-low n h = simp (le-leb n 0x10FFFF (omega arith), lt-leb 0xD800 n h)
+scalar-low n h = simp (le-leb n last-point (omega arith), lt-leb 0xD800 n h)
 
 pub scalar-high : (n : ℕ) → 0xE000 ≤ n → n < 0x110000 → scalar n ≡ true
 unfolding scalar
-scalar-high n l h = simp (le-leb n 0x10FFFF (omega arith), le-leb 0xD800 n (omega arith), lt-leb n 0xDFFF l)
+scalar-high n l h = simp (le-leb n last-point (omega arith), le-leb 0xD800 n (omega arith), lt-leb n 0xDFFF l)
 
 pub scalar-says : (n : ℕ) → scalar n ≡ true → ((n < 0xD800) ⊎ (0xE000 ≤ n)) × (n < 0x110000)
 unfolding scalar
 scalar-says n e =
-    let p = both (leb n 0x10FFFF) (not (leb 0xD800 n && leb n 0xDFFF)) e in
-    (go (leb 0xD800 n) refl (leb n 0xDFFF) refl (p .1), omega (arith, leb-true n 0x10FFFF (p .0)))
+    let p = both (leb n last-point) (not (leb 0xD800 n && leb n 0xDFFF)) e in
+    (go (leb 0xD800 n) refl (leb n 0xDFFF) refl (p .1), omega (arith, leb-true n last-point (p .0)))
   where
     go : (a : Bool) → leb 0xD800 n ≡ a → (b : Bool) → leb n 0xDFFF ≡ b → not (a && b) ≡ true → (n < 0xD800) ⊎ (0xE000 ≤ n)
     go false p b q h = inl (leb-false 0xD800 n p)

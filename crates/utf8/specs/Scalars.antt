@@ -8,9 +8,13 @@ use Prim.Native.Nat.{ℕ, _+_, _/_, _%_}
 use lib.Dec.{leb, ltb}
 use Rattle.utf8.specs.Utf8.{is-utf8}
 
--- U+0000 to U+10FFFF without the surrogates, U+D800 to U+DFFF
+-- the last code point
+abbrev pub last-point : ℕ
+last-point = 0x10FFFF
+
+-- a code point that is no surrogate: those are U+D800 to U+DFFF
 unfoldable pub scalar : ℕ → Bool
-scalar n = leb n 0x10FFFF && not (leb 0xD800 n && leb n 0xDFFF)
+scalar n = leb n last-point && not (leb 0xD800 n && leb n 0xDFFF)
 
 unfoldable pub scalars : List ℕ → Bool
 scalars [] = true
