@@ -1,19 +1,31 @@
--- The texts behind the arrays, one by one: what a text leaves decides the rest.
+-- The texts behind the arrays, one by one: what a text leaves decides the rest. Those of a well-formed message are encodings.
 -- Assumes nothing.
 use mathlib.Core.Path.{_≡_, refl, sym, ap, ap₂, _∙_}
 use mathlib.Core.Logic.{_⊎_, ⊎-elim}
 use mathlib.Core.Bool.{Bool, true, _&&_}
-use mathlib.Core.List.{List, [], _∷_}
+use mathlib.Core.List.{List, [], _∷_, _++_, map, flatten}
 use Prim.Native.Nat.{ℕ, zero, suc, _+_, _*_, _-_, _≤_, _<_}
+use native.Mathlib.Nat.{not-suc-le-zero, le-of-suc-le-suc}
 use native.Mathlib.Omega.{arith}
-use lib.ListN.{length, take, drop, length-drop, drop-of-length-le}
+use lib.ListN.{length, getD, take, drop, length-drop, take-append-drop, drop-of-length-le}
 use lib.Seq.{take-all, take-add, drop-at, drop-cons, drop-drop, length-take-le, getD-take}
 use Rattle.table.specs.Lists.{every}
-use Rattle.table.proofs.Lists.{join}
+use borrow.Author.Tests.{eqb-true}
+use Rattle.table.proofs.Lists.{both, join}
 use Rattle.utf8.specs.Utf8.{is-utf8, is-ascii}
 use Rattle.utf8.proofs.Places.{ascii-utf8, ascii-take, ascii-drop}
-use Rattle.message.specs.Message.{Value, count-of, values-of, text-length, cut-up, texts-of, legal-texts}
-use Rattle.message.proofs.Reading.{value-at, values-length, value-by-place}
+use Rattle.utf8.proofs.Meaning.{encoded-exactly}
+use Rattle.message.specs.Message.{Value, count-of, values-of, text-length, text-bytes, announced, cut-up, texts-of, exact, legal-texts}
+use Rattle.message.specs.Theorems.{EachTextEncoded}
+use Rattle.message.proofs.Reading.{value-at, values-length, value-by-place, well-formed-exactly, framed-parts, formed-framed, formed-legal}
+
+-- from field f on, whose text begins at a place
+abbrev pub left-legal : List ℕ → ℕ → ℕ → Bool
+left-legal bytes f at = every is-utf8 (cut-up (drop f (values-of bytes)) (drop at bytes))
+
+pub texts-begin : (bytes : List ℕ) → legal-texts bytes ≡ left-legal bytes 0 (9 + 5 * count-of bytes)
+unfolding legal-texts texts-of
+texts-begin bytes = refl
 
 -- ASCII is UTF-8, however it is cut
 pub ascii-texts : (vs : List Value) (bs : List ℕ) → is-ascii bs ≡ true → every is-utf8 (cut-up vs bs) ≡ true
@@ -24,8 +36,7 @@ ascii-texts (v ∷ vs) bs e =
     (ascii-texts vs (drop (text-length v) bs) (ascii-drop (text-length v) bs e))
 
 all-ascii : (bytes : List ℕ) → is-ascii (drop (9 + 5 * count-of bytes) bytes) ≡ true → legal-texts bytes ≡ true
-unfolding legal-texts texts-of
-all-ascii bytes e = ascii-texts (values-of bytes) (drop (9 + 5 * count-of bytes) bytes) e
+all-ascii bytes e = texts-begin bytes ∙ ascii-texts (values-of bytes) (drop (9 + 5 * count-of bytes) bytes) e
 
 -- of n bytes, those behind the arrays
 pub ascii-behind : (bytes : List ℕ) (n start : ℕ) → start ≡ 9 + 5 * count-of bytes → start ≤ n → n ≤ length bytes
@@ -47,8 +58,11 @@ pub no-texts : (bytes : List ℕ) → length bytes ≤ 9 + 5 * count-of bytes �
 unfolding is-ascii
 no-texts bytes l = all-ascii bytes (ap is-ascii (drop-of-length-le bytes l))
 
--- bytes from `at` to `end`: n of them or, where there are fewer, all
-module _ (bytes : List ℕ) (at n end : ℕ) (cut : (end ≡ at + n) ⊎ ((end ≡ length bytes) × (length bytes ≤ at + n))) where
+-- a text of n bytes from `at` on stops at `end`: behind them or, where there are fewer, behind all
+abbrev pub StopsAt : List ℕ → ℕ → ℕ → ℕ → Type 0
+StopsAt bytes at n end = (end ≡ at + n) ⊎ ((end ≡ length bytes) × (length bytes ≤ at + n))
+
+module _ (bytes : List ℕ) (at n end : ℕ) (cut : StopsAt bytes at n end) where
   text-there : take n (drop at bytes) ≡ take (end - at) (drop at bytes)
   text-there =
       ⊎-elim (λ (e : end ≡ at + n). let q : n ≡ end - at = omega arith in ap (λ k. take k (drop at bytes)) q)
@@ -65,18 +79,10 @@ module _ (bytes : List ℕ) (at n end : ℕ) (cut : (end ≡ at + n) ⊎ ((end �
       drop-of-length-le bytes (e .1) ∙ sym (drop-of-length-le bytes {i = end} (omega arith)))
       cut
 
--- from field f on, whose text begins at a place
-abbrev pub left-legal : List ℕ → ℕ → ℕ → Bool
-left-legal bytes f at = every is-utf8 (cut-up (drop f (values-of bytes)) (drop at bytes))
-
 module _ (bytes : List ℕ) (arrays : 9 + 5 * count-of bytes ≤ length bytes) where
-  pub texts-begin : legal-texts bytes ≡ left-legal bytes 0 (9 + 5 * count-of bytes)
-  unfolding legal-texts texts-of
-  texts-begin = refl
-
   -- one text more
   pub texts-next : (f at end : ℕ) → f < count-of bytes
-      → (end ≡ at + text-length (value-at bytes f)) ⊎ ((end ≡ length bytes) × (length bytes ≤ at + text-length (value-at bytes f)))
+      → StopsAt bytes at (text-length (value-at bytes f)) end
       → left-legal bytes f at ≡ (is-utf8 (take (end - at) (drop at bytes)) && left-legal bytes (f + 1) end)
   unfolding cut-up every
   texts-next f at end l cut =
@@ -92,3 +98,41 @@ module _ (bytes : List ℕ) (arrays : 9 + 5 * count-of bytes ≤ length bytes) w
   unfolding cut-up every
   texts-end f at l =
       ap (λ vs. every is-utf8 (cut-up vs (drop at bytes))) (drop-of-length-le (values-of bytes) {i = f} (omega (arith, values-length bytes arrays)))
+
+-- ---- the texts of a well-formed message
+
+-- where the fields announce all that is there
+module _ where
+  cut-lengths : (vs : List Value) (bs : List ℕ) → text-bytes vs ≡ length bs → map length (cut-up vs bs) ≡ map text-length vs
+  unfolding cut-up text-bytes
+  cut-lengths [] bs e = refl
+  cut-lengths (v ∷ vs) bs e =
+      ap₂ _∷_ (length-take-le (text-length v) bs (omega arith))
+      (cut-lengths vs (drop (text-length v) bs) (omega (arith, length-drop (text-length v) bs)))
+
+  cut-joined : (vs : List Value) (bs : List ℕ) → text-bytes vs ≡ length bs → flatten (cut-up vs bs) ≡ bs
+  unfolding cut-up text-bytes flatten
+  cut-joined [] [] e = refl
+  cut-joined [] (b ∷ bs) e = absurd (omega arith)
+  cut-joined (v ∷ vs) bs e =
+      ap (λ r. take (text-length v) bs ++ r) (cut-joined vs (drop (text-length v) bs) (omega (arith, length-drop (text-length v) bs)))
+      ∙ take-append-drop (text-length v) bs
+
+every-one : (ts : List (List ℕ)) → every is-utf8 ts ≡ true → (f : ℕ) → f < length ts → is-utf8 (getD ts f []) ≡ true
+unfolding every
+every-one [] e f l = absurd (not-suc-le-zero l)
+every-one (t ∷ ts) e zero l = both (is-utf8 t) (every is-utf8 ts) e .0
+every-one (t ∷ ts) e (suc f) l = every-one ts (both (is-utf8 t) (every is-utf8 ts) e .1) f (le-of-suc-le-suc l)
+
+pub each-text-encoded : EachTextEncoded
+unfolding texts-of announced exact legal-texts
+each-text-encoded bytes e =
+    let framed = formed-framed bytes (well-formed-exactly bytes .0 e) in
+    let size = eqb-true (length bytes) (announced bytes) (framed-parts bytes framed .2) in
+    let rest : text-bytes (values-of bytes) ≡ length (drop (9 + 5 * count-of bytes) bytes) = omega (arith, size, length-drop (9 + 5 * count-of bytes) bytes) in
+    let legal = formed-legal bytes (well-formed-exactly bytes .0 e) in
+    record {
+      lengths = cut-lengths (values-of bytes) (drop (9 + 5 * count-of bytes) bytes) rest;
+      joined = cut-joined (values-of bytes) (drop (9 + 5 * count-of bytes) bytes) rest;
+      encoded = λ f l. encoded-exactly (getD (texts-of bytes) f []) .0 (every-one (texts-of bytes) legal f l);
+    }

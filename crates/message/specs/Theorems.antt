@@ -3,14 +3,15 @@
 use mathlib.Core.Path.{_≡_}
 use mathlib.Core.Logic.{_↔_}
 use mathlib.Core.Bool.{true, false}
-use mathlib.Core.List.{List, [], _∷_, _++_}
+use mathlib.Core.List.{List, [], _∷_, _++_, map, flatten}
 use mathlib.Core.Option.{Option, none, some}
-use Prim.Native.Nat.{ℕ, _≤_, _<_}
-use lib.ListN.{length, getD, take}
+use Prim.Native.Nat.{ℕ, _+_, _*_, _≤_, _<_}
+use lib.ListN.{length, getD, take, drop}
 use Rattle.table.specs.Lists.{matched}
 use Rattle.table.specs.Table.{Field, Table, sound}
 use Rattle.table.specs.View.{Words, label-of, view}
-use Rattle.message.specs.Message.{Value, Message, read, well-formed, front, broken, has-label}
+use Rattle.utf8.specs.Scalars.{Encoded}
+use Rattle.message.specs.Message.{Value, Message, count-of, values-of, read, text-length, texts-of, well-formed, front, broken, has-label}
 use Rattle.message.specs.Judge.{same-kind, in-range, carries, allows, selected, allowed, forbidden, judge}
 use Rattle.message.specs.Make.{branch, branch-message, making}
 
@@ -77,6 +78,18 @@ NeverMended = (bytes more : List ℕ) → broken bytes ≡ true → front (bytes
 -- 29 bytes that are not broken announce their length
 abbrev pub UnbrokenAnnounces : Type 0
 UnbrokenAnnounces = (bytes : List ℕ) → 29 ≤ length bytes → broken bytes ≡ false → front bytes ≡ 0
+
+-- ---- the texts
+
+-- one for each field, as long as the field announces, each the encoding of scalar values; one behind the other they are all that stands
+-- behind the arrays, so that no byte is left out and none is in two
+pub record TextsApart (bytes : List ℕ) : Type 0 where
+  pub lengths : map length (texts-of bytes) ≡ map text-length (values-of bytes)
+  pub joined : flatten (texts-of bytes) ≡ drop (9 + 5 * count-of bytes) bytes
+  pub encoded : (f : ℕ) → f < length (texts-of bytes) → Encoded (getD (texts-of bytes) f [])
+
+abbrev pub EachTextEncoded : Type 0
+EachTextEncoded = (bytes : List ℕ) → well-formed bytes ≡ true → TextsApart bytes
 
 -- ---- a made message
 

@@ -1,8 +1,7 @@
 -- A batch stops at a message that only 22 refuses: it is due, its step is refused, and so nothing changes.
 -- Assumes nothing.
-use mathlib.Core.Path.{_≡_, refl, sym, ap, ap₂, subst, _∙_}
+use mathlib.Core.Path.{_≡_, refl, sym, ap, _∙_}
 use mathlib.Core.Logic.{⊎-elim}
-use mathlib.Core.Bool.{Bool, false}
 use mathlib.Core.List.{List, _++_}
 use mathlib.Core.Option.{none, some}
 use Prim.Native.Nat.{ℕ, suc, _+_}
@@ -14,12 +13,12 @@ use Rattle.table.specs.View.{Words}
 use Rattle.table.specs.declared.Party.{Party}
 use Rattle.table.specs.declared.Party.the-variants.{Device, Host}
 use Rattle.message.specs.Message.{refusal}
-use Rattle.message.proofs.Reading.{Whole, whole-parts, framed-parts, stopped-framed}
+use Rattle.message.proofs.Reading.{whole-parts, framed-parts, stopped-framed}
 use Rattle.monitor.specs.declared.State.{State}
-use Rattle.monitor.specs.Step.{refused, refusing, stepping}
+use Rattle.monitor.specs.Step.{refused, stepping}
 use Rattle.monitor.specs.Due.{of-side, awaited, first-length}
 use Rattle.monitor.specs.Batch.{Lane, taken, taking, Batch, latest, device-took, host-took, turn-of, one-turn, turns, batch-questions, begun}
-use Rattle.monitor.specs.Batches.{Left, waiting-on, batch-of, StopsAtText}
+use Rattle.monitor.specs.Batches.{Left, waiting-on, StopsAtText}
 use Rattle.monitor.specs.Conversation.{is-forwarded}
 use Rattle.monitor.specs.Turns.{is-last-forwarded}
 use Rattle.monitor.proofs.Asking.{zero-or, not-entered}

@@ -5,7 +5,7 @@ use mathlib.Core.Bool.{Bool, true, _&&_, not, cond}
 use mathlib.Core.List.{List, [], _∷_, _++_}
 use mathlib.Core.Logic.{_↔_}
 use Prim.Native.Nat.{ℕ, _+_, _/_, _%_}
-use lib.Dec.{leb, ltb}
+use lib.Dec.{leb}
 use Rattle.utf8.specs.Utf8.{is-utf8}
 
 -- the last code point

@@ -1,6 +1,6 @@
 -- `message::fields::texts` meets its contract: after f texts the rest decides. Assumes nothing.
-use mathlib.Core.Path.{_≡_, refl, sym, ap, ap₂, _∙_}
-use mathlib.Core.Logic.{_⊎_, inl, inr, ⊎-elim}
+use mathlib.Core.Path.{_≡_, sym, ap, _∙_}
+use mathlib.Core.Logic.{inl, inr, ⊎-elim}
 use mathlib.Core.Bool.{_&&_}
 use Prim.Native.Nat.{_+_, _*_, _-_, _≤_}
 use native.Mathlib.Omega.{arith}
@@ -11,7 +11,7 @@ use Rattle.table.proofs.Lists.{left-fails, left-passes}
 use Rattle.message.specs.Message.{count-of, text-length, number-at, legal-texts}
 use Rattle.message.specs.Layout.{text-at}
 use Rattle.message.proofs.Reading.{value-at}
-use Rattle.message.proofs.Texts.{left-legal, texts-begin, texts-next, texts-end}
+use Rattle.message.proofs.Texts.{left-legal, StopsAt, texts-begin, texts-next, texts-end}
 use Rattle.message.proofs.fields.texts.Statement.{statement}
 use Rattle.message.proofs.fields.texts.Tie as tie
 
@@ -27,7 +27,7 @@ loop-holds : tie.Need-loop-holds Inv-loop μ-loop
 loop-holds c =
     let b = c .before .args .bytes .now in
     let e : count-of b ≡ c .before .args .count = omega arith in
-    (search needs, search needs, search needs, search needs, texts-begin b (omega arith) ∙ ap (λ n. left-legal b 0 (9 + 5 * n)) e)
+    (search needs, search needs, search needs, search needs, texts-begin b ∙ ap (λ n. left-legal b 0 (9 + 5 * n)) e)
 
 cast-text-of : tie.Need-cast-text-of Inv-loop μ-loop
 cast-text-of c = omega (arith, c .shared-slice-known2 .given (9 + c .before .before .before .loop .f))
@@ -62,7 +62,7 @@ one-more c =
     let h = i .before .before .before .before .before in
     let b = h .before .before .args .bytes .now in
     let n = announced-here (i .before) in
-    let cut : (i .if1 .end ≡ h .loop .at + text-length (value-at b (h .loop .f))) ⊎ ((i .if1 .end ≡ length b) × (length b ≤ h .loop .at + text-length (value-at b (h .loop .f)))) =
+    let cut : StopsAt b (h .loop .at) (text-length (value-at b (h .loop .f))) (i .if1 .end) =
     ⊎-elim (λ w. inl (w .1 ∙ ap (λ k. h .loop .at + k) n)) (λ w. inr (w .1, omega (arith, w .0 .left, n))) (i .if1 .came)
     in
     h .loop .inv .4 ∙ texts-next b (omega arith) (h .loop .f) (h .loop .at) (i .if1 .end) (omega arith) cut

@@ -101,7 +101,7 @@ returns-5 c n =
     (sym (c .before .is-ascii .ensures) ∙ c .if5 .taken))
 
 slice-aggregate-legal-texts : tie.Need-slice-aggregate-legal-texts
-slice-aggregate-legal-texts c = sym (length-take-le _ _ (c .before .before .before .before .if4 .left))
+slice-aggregate-legal-texts c = sym (length-take-le _ _ (omega (arith, c .before .before .before .before .if4 .left)))
 
 returns-6 : tie.Need-returns-6
 returns-6 c n = absurd (n refl)
