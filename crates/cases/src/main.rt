@@ -12,7 +12,7 @@
 //   b position standing room room length device.. host.. = counts answer position standing output output      a batch from that state
 //   c room room length device.. host.. = counts answer position standing output output                        or from the one left
 // What j, g, f and i want, the lines w, which ask for the due part, and three lines b, whose standing is no code, are left to the tests
-// in Rust: 33 of the 639 cases of `monitor` and 11 of the 109 of `batches`.
+// in Rust: 39 of the 688 cases of `monitor` and 13 of the 135 of `batches`.
 ghost use Prim.Native.Nat.{_≤_};
 use libc::STDOUT_FILENO;
 use line::Line;

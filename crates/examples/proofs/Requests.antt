@@ -1,8 +1,14 @@
 -- Document 02's examples hold. Assumes nothing.
+use mathlib.Core.Path.{refl}
+use Rattle.utf8.specs.Utf8.{within, utf8-char, some-row, octets, is-utf8}
 use Rattle.table.specs.Ascii.{ascii}
+use Rattle.table.specs.Lists.{first-no, every}
+use Rattle.table.specs.Table.{within-kind, upper, letter-or-digit, label-rest, legal-label}
+use Rattle.message.specs.Message.{number-of, first-number, pair-up, count-of, values-of, text-bytes, announced, cut-up, texts-of}
+use Rattle.message.specs.Message.{whole, legal-value, legal-values, exact, legal-texts, refusal}
 use Rattle.text.proofs.Exactly.{read-sound}
 use Rattle.monitor.proofs.Warnings.{warning-examples}
-use Rattle.examples.specs.Requests.{NamesAfterRec, SharesRead, shared-text}
+use Rattle.examples.specs.Requests.{NamesAfterRec, SharesRead, shared-text, TextsAsked}
 use Rattle.examples.proofs.Tables as R
 
 pub names-after-rec : NamesAfterRec
@@ -18,4 +24,17 @@ shares-read =
       no-share = R.read .no-share;
       no-number = R.read .no-number;
       warnings = warning-examples;
+    }
+
+pub texts-asked : TextsAsked
+unfolding first-no every within-kind upper letter-or-digit label-rest legal-label number-of first-number pair-up count-of values-of text-bytes
+    announced cut-up texts-of whole legal-value legal-values exact legal-texts refusal within utf8-char some-row octets is-utf8
+texts-asked =
+    record {
+      well-formed-texts = refl;
+      cut-between = refl;
+      cut-at-the-end = refl;
+      other-encoding = refl;
+      nul-and-mark = refl;
+      too-short = refl;
     }

@@ -2,9 +2,11 @@
 -- Assumes nothing.
 use mathlib.Core.Path.{_≡_}
 use mathlib.Core.Bool.{true}
-use mathlib.Core.List.{[], _∷_}
+use mathlib.Core.List.{List, [], _∷_}
+use Prim.Native.Nat.{ℕ}
 use Prim.Native.String.{String}
 use Rattle.table.specs.View.{view, sound-of}
+use Rattle.message.specs.Message.{refusal}
 use Rattle.monitor.specs.Warning.{WarningExamples}
 use Rattle.examples.specs.Twelve.{Reads, RefusedAt, table}
 use Rattle.table.specs.Table as T
@@ -57,3 +59,22 @@ pub record SharesRead : Type 0 where
   pub no-share : RefusedAt "+{!A()@0.end}" 19 7
   pub no-number : RefusedAt "+{!A()@05.end}" 2 7
   pub warnings : WarningExamples
+
+-- ---- request 6: texts must be UTF-8
+
+-- `Grade` with two texts, of m and n bytes
+abbrev pub grades : ℕ → ℕ → List ℕ → List ℕ
+grades m n texts = 71 ∷ 114 ∷ 97 ∷ 100 ∷ 101 ∷ 0 ∷ 0 ∷ 0 ∷ 2 ∷ 1 ∷ 1 ∷ 0 ∷ 0 ∷ 0 ∷ m ∷ 0 ∷ 0 ∷ 0 ∷ n ∷ texts
+
+pub record TextsAsked : Type 0 where
+  -- an e with an acute accent, and a euro sign
+  pub well-formed-texts : refusal (grades 2 3 (0xC3 ∷ 0xA9 ∷ 0xE2 ∷ 0x82 ∷ 0xAC ∷ [])) ≡ 0
+  -- the same bytes, the euro sign cut: it does not borrow from the next text
+  pub cut-between : refusal (grades 3 2 (0xC3 ∷ 0xA9 ∷ 0xE2 ∷ 0x82 ∷ 0xAC ∷ [])) ≡ 22
+  pub cut-at-the-end : refusal (grades 2 2 (0xC3 ∷ 0xA9 ∷ 0xE2 ∷ 0x82 ∷ [])) ≡ 22
+  -- an e with an acute accent as Latin-1 has it
+  pub other-encoding : refusal (grades 1 0 (0xE9 ∷ [])) ≡ 22
+  -- U+0000 and U+FEFF
+  pub nul-and-mark : refusal (grades 1 3 (0x00 ∷ 0xEF ∷ 0xBB ∷ 0xBF ∷ [])) ≡ 0
+  -- 15 first
+  pub too-short : refusal (grades 2 0 (0xE9 ∷ [])) ≡ 15
