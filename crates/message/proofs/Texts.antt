@@ -12,7 +12,8 @@ use lib.Seq.{take-all, take-add, drop-at, drop-cons, drop-drop, length-take-le, 
 use Rattle.table.specs.Lists.{every}
 use borrow.Author.Tests.{eqb-true}
 use Rattle.table.proofs.Lists.{both, join}
-use Rattle.utf8.specs.Utf8.{is-utf8, is-ascii}
+use Rattle.utf8.specs.Utf8.{is-utf8}
+use Rattle.utf8.specs.Steps.{is-ascii}
 use Rattle.utf8.proofs.Places.{ascii-utf8, ascii-take, ascii-drop}
 use Rattle.utf8.proofs.Meaning.{encoded-exactly}
 use Rattle.message.specs.Message.{Value, count-of, values-of, text-length, text-bytes, announced, cut-up, texts-of, exact, legal-texts}

@@ -1,4 +1,4 @@
--- What a first byte leaves due, by the utf8-char of the grammar. Assumes nothing.
+-- What a lead leaves due: the grammar's rows do not overlap, so one decides. Assumes nothing.
 use mathlib.Core.Path.{_≡_, refl, sym, ap, ap₂, _∙_}
 use mathlib.Core.Logic.{_⊎_, inl, inr, ⊎-elim}
 use mathlib.Core.Bool.{Bool, true, false, not, _&&_, _||_, or-false, false≢true}
@@ -38,7 +38,7 @@ above r b h = go (leb (r .low) b) (lt-leb b (r .high) h)
     go true e = e
     go false e = refl
 
--- ---- the row of a first byte: the utf8-char before it end below the byte, and those behind it begin above
+-- ---- the row of a lead: the rows before it end below the byte, and those behind it begin above
 
 starts : ℕ → List ℕ → Row → Bool
 starts a bs row = within (row .lead) a && octets (row .after) bs

@@ -1,4 +1,4 @@
--- THEOREM: the is-utf8 bytes are those that spell scalar values (`meaning`), and they spell one list of them only (`unique`).
+-- Bytes are well formed exactly where they encode scalar values, and then one list of them only.
 -- Assumes nothing.
 use mathlib.Core.Path.{_≡_, refl, sym, ap, ap₂, subst, _∙_}
 use mathlib.Core.Logic.{_⊎_, inl, inr, ⊎-elim}
@@ -83,19 +83,20 @@ all-encoded (n ∷ ns) e =
     let p = both (scalar n) (scalars ns) e in
     encoded n (encode-all ns) (p .0) ∙ all-encoded ns (p .1)
 
--- ---- is-utf8 bytes begin with an encoding
+-- ---- well-formed bytes begin with an encoding
 
+-- a character, and what is behind it
 record Char (bs : List ℕ) : Type 0 where
   value : ℕ
   rest : List ℕ
   legal : scalar value ≡ true
-  spell : encode value ++ rest ≡ bs
+  encoding : encode value ++ rest ≡ bs
   goes : octets [] rest ≡ true
   less : length rest < length bs
 
 module _ (r : List ℕ) (goes : octets [] r ≡ true) where
   make-one : (a : ℕ) → a < 0x80 → Char (a ∷ r)
-  make-one a h = record { value = a; rest = r; legal = scalar-low a (omega arith); spell = ap (λ l. l ++ r) (encode-one a h); goes = goes; less = omega arith }
+  make-one a h = record { value = a; rest = r; legal = scalar-low a (omega arith); encoding = ap (λ l. l ++ r) (encode-one a h); goes = goes; less = omega arith }
 
   make-two : (x y : ℕ) → 2 ≤ x → x < 32 → y < 64 → Char ((0xC0 + x) ∷ (0x80 + y) ∷ r)
   make-two x y l h hy =
@@ -104,7 +105,7 @@ module _ (r : List ℕ) (goes : octets [] r ≡ true) where
         value = n;
         rest = r;
         legal = scalar-low n (omega arith);
-        spell = ap (λ l. l ++ r) (encode-two n (omega arith) (omega arith) ∙ from-two x y hy);
+        encoding = ap (λ l. l ++ r) (encode-two n (omega arith) (omega arith) ∙ from-two x y hy);
         goes = goes;
         less = omega arith;
       }
@@ -117,7 +118,7 @@ module _ (r : List ℕ) (goes : octets [] r ≡ true) where
         value = n;
         rest = r;
         legal = e;
-        spell = ap (λ l. l ++ r) (encode-three n l (omega arith) ∙ from-three x y z hy hz);
+        encoding = ap (λ l. l ++ r) (encode-three n l (omega arith) ∙ from-three x y z hy hz);
         goes = goes;
         less = omega arith;
       }
@@ -130,7 +131,7 @@ module _ (r : List ℕ) (goes : octets [] r ≡ true) where
         value = n;
         rest = r;
         legal = scalar-high n (omega arith) h;
-        spell = ap (λ l. l ++ r) (encode-four n l ∙ from-four w x y z hx hy hz);
+        encoding = ap (λ l. l ++ r) (encode-four n l ∙ from-four w x y z hx hy hz);
         goes = goes;
         less = omega arith;
       }
@@ -239,7 +240,7 @@ encoded-step m f (a ∷ r) l e =
     record {
       values = c .value ∷ s .values;
       are-scalars = ap₂ _&&_ (c .legal) (s .are-scalars);
-      encoding = ap (λ t. encode (c .value) ++ t) (s .encoding) ∙ c .spell;
+      encoding = ap (λ t. encode (c .value) ++ t) (s .encoding) ∙ c .encoding;
     }
 
 encoded-from : (m : ℕ) (bs : List ℕ) → length bs < m → octets [] bs ≡ true → Encoded bs

@@ -12,8 +12,8 @@ use lib.Seq.{drop-cons}
 use lib.Dec.{lit<, eqb}
 use borrow.Author.Tests.{eq-eqb, ne-eqb}
 use lib.Bits.{bitAnd, and-block, and-high}
-use Rattle.utf8.specs.Utf8.{Range, _to_, utf8-tail, within, octets, is-utf8, is-ascii}
-use Rattle.utf8.specs.Steps.{size, second, word-here, Spans, Ascii, AsciiTo, Width}
+use Rattle.utf8.specs.Utf8.{Range, _to_, utf8-tail, within, octets, is-utf8}
+use Rattle.utf8.specs.Steps.{size, second, word-here, is-ascii, Spans, Ascii, AsciiTo, Width}
 use Rattle.utf8.proofs.Leads.{inside, above, both, within-says, tails, due, lead, no-lead, lead-one, lt-or-ge}
 
 fails : (t : Bool) {u : Bool} → u ≡ false → (t && u) ≡ false

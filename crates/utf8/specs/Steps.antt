@@ -1,12 +1,18 @@
--- What the inner functions tell one another, by places of the bytes. It need not be believed: `is-utf8` does not rest on it.
+-- ASCII, which is UTF-8 however it is cut, and what the inner functions tell one another, by places of the bytes. It need not be
+-- believed: `is-utf8` does not rest on it.
 -- Assumes nothing.
 use mathlib.Core.Path.{_≡_}
-use mathlib.Core.Bool.{false, cond}
-use mathlib.Core.List.{List}
+use mathlib.Core.Bool.{Bool, true, false, _&&_, cond}
+use mathlib.Core.List.{List, [], _∷_}
 use Prim.Native.Nat.{ℕ, _+_, _*_, _≤_, _<_}
 use lib.ListN.{length, getD, drop}
 use lib.Dec.{ltb, eqb}
-use Rattle.utf8.specs.Utf8.{Range, _to_, utf8-tail, is-utf8}
+use Rattle.utf8.specs.Utf8.{Range, _to_, within, utf8-tail, is-utf8}
+
+-- every byte is a UTF8-1
+unfoldable pub is-ascii : List ℕ → Bool
+is-ascii [] = true
+is-ascii (b ∷ bs) = within (0x00 to 0x7F) b && is-ascii bs
 
 -- from one place to a later one there are whole characters: what is behind them decides
 pub record Spans (bs : List ℕ) (from next : ℕ) : Type 0 where

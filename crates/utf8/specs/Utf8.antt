@@ -78,8 +78,3 @@ octets (r ∷ due) (b ∷ bs) = within r b && octets due bs
 
 unfoldable pub is-utf8 : List ℕ → Bool
 is-utf8 bs = octets [] bs
-
--- ASCII: every byte is a UTF8-1
-unfoldable pub is-ascii : List ℕ → Bool
-is-ascii [] = true
-is-ascii (b ∷ bs) = within (0x00 to 0x7F) b && is-ascii bs

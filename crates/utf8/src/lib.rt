@@ -1,12 +1,12 @@
-// Well-formed UTF-8 (RFC 3629).
+// Well-formed UTF-8 (RFC 3629), for the texts of messages.
 ghost use mathlib.Core.Path.{_≡_};
 ghost use mathlib.Core.Bool.{true};
 ghost use Prim.Native.Nat.{_+_, _≤_, _<_};
 ghost use lib.ListN.{length, getD};
-ghost use Rattle.utf8.specs.Utf8.{is-utf8, is-ascii, within, _to_};
-ghost use Rattle.utf8.specs.Steps.{Ascii, AsciiTo, Width, size, second, word-here};
+ghost use Rattle.utf8.specs.Utf8.{is-utf8, within, _to_};
+ghost use Rattle.utf8.specs.Steps.{is-ascii, Ascii, AsciiTo, Width, size, second, word-here};
 
-// Whether the bytes are is-utf8 UTF-8: character by character, and eight bytes at a time where they are ASCII.
+// Whether the bytes are well-formed UTF-8: a word at a time behind an ASCII byte, else one character after another.
 pub fn is_utf8(bytes: &[u8]) -> bool
     ensures { λ r. ⌜ r ≡ is-utf8 (now (bytes .entry)) ⌝ }
 {
@@ -33,7 +33,7 @@ pub fn is_ascii(bytes: &[u8]) -> bool
     end == bytes.len()
 }
 
-// Past the ASCII at the front, four words at a time.
+// How far ASCII goes from the front, by blocks of four words.
 fn blocks(bytes: &[u8]) -> usize
     ensures { λ r. ⌜ Ascii (now (bytes .entry)) 0 r ⌝ }
 {
@@ -47,6 +47,7 @@ fn blocks(bytes: &[u8]) -> usize
     i
 }
 
+// Whether four words at a place are ASCII.
 fn block(bytes: &[u8], at: usize) -> bool
     requires { ⌜ at + 32 ≤ length (now bytes) ⌝ }
     ensures { λ r. ⌜ (r ≡ true → Ascii (now (bytes .entry)) at (at + 32)) ⌝ }
@@ -63,7 +64,7 @@ fn block(bytes: &[u8], at: usize) -> bool
     eight(bytes, at + 24)
 }
 
-// Past the ASCII from a place on: a word at a time, and the last few bytes one by one.
+// How far ASCII goes from a place on: by words, and the last few bytes one by one.
 fn ascii(bytes: &[u8], from: usize) -> usize
     requires { ⌜ from ≤ length (now bytes) ⌝ }
     ensures { λ r. ⌜ AsciiTo (now (bytes .entry)) from r ⌝ }
@@ -93,7 +94,7 @@ fn letters(bytes: &[u8], from: usize) -> usize
     i
 }
 
-// Eight bytes at once: whether no high bit is set in their word.
+// Whether the word of eight bytes at a place has no high bit set.
 fn eight(bytes: &[u8], at: usize) -> bool
     requires { ⌜ at + 8 ≤ length (now bytes) ⌝ }
     ensures { λ r. ⌜ (r ≡ true → Ascii (now (bytes .entry)) at (at + 8)) ⌝ }
@@ -111,7 +112,7 @@ fn word(bytes: &[u8], at: usize) -> u64
         + bytes[at + 3] as u64
 }
 
-// How many bytes the character at a place has; 0 where none stands there.
+// The length of the character at a place; 0 where none stands there.
 fn width(bytes: &[u8], at: usize) -> usize
     requires { ⌜ at < length (now bytes) ⌝ }
     ensures { λ r. ⌜ Width (now (bytes .entry)) at r ⌝ }
@@ -135,7 +136,7 @@ fn width(bytes: &[u8], at: usize) -> usize
     0
 }
 
-// The same where the first byte announces n bytes, 2 at least: called with a number, so that each call is a copy for that number.
+// The same behind a lead that announces n bytes, at least two. Each call names its n, so the compiler makes a function for each.
 fn longer(bytes: &[u8], at: usize, n: usize) -> usize
     requires { ⌜ (at < length (now bytes)) × (size (getD (now bytes) at 0) ≡ n) × (2 ≤ n) ⌝ }
     ensures { λ r. ⌜ Width (now (bytes .entry)) at r ⌝ }
@@ -161,7 +162,7 @@ fn longer(bytes: &[u8], at: usize, n: usize) -> usize
     4
 }
 
-// Whether a second byte may follow a first that announces more.
+// Whether byte b may follow the lead a.
 fn second(a: u8, b: u8) -> bool
     ensures { λ r. ⌜ r ≡ within (second a) b ⌝ }
 {
