@@ -159,7 +159,7 @@ module _ (bs : List ℕ) where
       ∙ lead-one (at (k + n)) (drop (k + n + 1) bs) (h n (omega arith)) ∙ ap (λ j. octets [] (drop j bs)) q
 
   words : (k : ℕ) → word-here bs k * 4294967296 + word-here bs (k + 4) ≡ horner (λ i. at (k + i)) 8
-  unfolding word-here horner
+  unfolding horner
   words k =
       omega (
         arith,

@@ -2,7 +2,6 @@
 use Prim.Native.Nat.{_+_}
 use native.Mathlib.Omega.{arith}
 use borrow.Author.Needs.{needs}
-use Rattle.utf8.specs.Steps.{word-here}
 use Rattle.utf8.proofs.word.Statement.{statement}
 use Rattle.utf8.proofs.word.Tie as tie
 
@@ -44,7 +43,6 @@ add-result-6 c =
     omega (arith, b at, b (at + 1), b (at + 2), b (at + 3))
 
 returns : tie.Need-returns
-unfolding word-here
 returns c =
     let a = c .before .before .before .before .args in
     let b = c .shared-slice-known4 .given in (
