@@ -17,8 +17,8 @@ use Rattle.utf8.specs.Steps.{is-ascii}
 use Rattle.utf8.proofs.Places.{ascii-utf8, ascii-take, ascii-drop}
 use Rattle.utf8.proofs.Meaning.{encoded-exactly}
 use Rattle.message.specs.Message.{Value, count-of, values-of, text-length, text-bytes, announced, cut-up, texts-of, exact, legal-texts}
-use Rattle.message.specs.Theorems.{EachTextEncoded}
-use Rattle.message.proofs.Reading.{value-at, values-length, value-by-place, well-formed-exactly, framed-parts, formed-framed, formed-legal}
+use Rattle.message.specs.Theorems.{EachTextEncoded, TextsApart}
+use Rattle.message.proofs.Reading.{value-at, values-length, value-by-place, well-formed-exactly, framed-parts, formed-framed}
 
 -- from field f on, whose text begins at a place
 abbrev pub left-legal : List ℕ → ℕ → ℕ → Bool
@@ -103,21 +103,20 @@ module _ (bytes : List ℕ) (arrays : 9 + 5 * count-of bytes ≤ length bytes) w
 -- ---- the texts of a well-formed message
 
 -- where the fields announce all that is there
-module _ where
-  cut-lengths : (vs : List Value) (bs : List ℕ) → text-bytes vs ≡ length bs → map length (cut-up vs bs) ≡ map text-length vs
-  unfolding cut-up text-bytes
-  cut-lengths [] bs e = refl
-  cut-lengths (v ∷ vs) bs e =
-      ap₂ _∷_ (length-take-le (text-length v) bs (omega arith))
-      (cut-lengths vs (drop (text-length v) bs) (omega (arith, length-drop (text-length v) bs)))
+cut-lengths : (vs : List Value) (bs : List ℕ) → text-bytes vs ≡ length bs → map length (cut-up vs bs) ≡ map text-length vs
+unfolding cut-up text-bytes
+cut-lengths [] bs e = refl
+cut-lengths (v ∷ vs) bs e =
+    ap₂ _∷_ (length-take-le (text-length v) bs (omega arith))
+    (cut-lengths vs (drop (text-length v) bs) (omega (arith, length-drop (text-length v) bs)))
 
-  cut-joined : (vs : List Value) (bs : List ℕ) → text-bytes vs ≡ length bs → flatten (cut-up vs bs) ≡ bs
-  unfolding cut-up text-bytes flatten
-  cut-joined [] [] e = refl
-  cut-joined [] (b ∷ bs) e = absurd (omega arith)
-  cut-joined (v ∷ vs) bs e =
-      ap (λ r. take (text-length v) bs ++ r) (cut-joined vs (drop (text-length v) bs) (omega (arith, length-drop (text-length v) bs)))
-      ∙ take-append-drop (text-length v) bs
+cut-joined : (vs : List Value) (bs : List ℕ) → text-bytes vs ≡ length bs → flatten (cut-up vs bs) ≡ bs
+unfolding cut-up text-bytes flatten
+cut-joined [] [] e = refl
+cut-joined [] (b ∷ bs) e = absurd (omega arith)
+cut-joined (v ∷ vs) bs e =
+    ap (λ r. take (text-length v) bs ++ r) (cut-joined vs (drop (text-length v) bs) (omega (arith, length-drop (text-length v) bs)))
+    ∙ take-append-drop (text-length v) bs
 
 every-one : (ts : List (List ℕ)) → every is-utf8 ts ≡ true → (f : ℕ) → f < length ts → is-utf8 (getD ts f []) ≡ true
 unfolding every
@@ -125,15 +124,23 @@ every-one [] e f l = absurd (not-suc-le-zero l)
 every-one (t ∷ ts) e zero l = both (is-utf8 t) (every is-utf8 ts) e .0
 every-one (t ∷ ts) e (suc f) l = every-one ts (both (is-utf8 t) (every is-utf8 ts) e .1) f (le-of-suc-le-suc l)
 
+each-every : (ts : List (List ℕ)) → ((f : ℕ) → f < length ts → is-utf8 (getD ts f []) ≡ true) → every is-utf8 ts ≡ true
+unfolding every
+each-every [] h = refl
+each-every (t ∷ ts) h = join (h 0 (omega arith)) (each-every ts (λ f l. h (suc f) (omega arith)))
+
 pub each-text-encoded : EachTextEncoded
-unfolding texts-of announced exact legal-texts
-each-text-encoded bytes e =
+unfolding legal-texts
+each-text-encoded bytes = (
+  λ e f l. encoded-exactly (getD (texts-of bytes) f []) .0 (every-one (texts-of bytes) e f l),
+  λ h. each-every (texts-of bytes) (λ f l. encoded-exactly (getD (texts-of bytes) f []) .1 (h f l)),
+)
+
+pub texts-apart : TextsApart
+unfolding texts-of announced exact
+texts-apart bytes e =
     let framed = formed-framed bytes (well-formed-exactly bytes .0 e) in
     let size = eqb-true (length bytes) (announced bytes) (framed-parts bytes framed .2) in
-    let rest : text-bytes (values-of bytes) ≡ length (drop (9 + 5 * count-of bytes) bytes) = omega (arith, size, length-drop (9 + 5 * count-of bytes) bytes) in
-    let legal = formed-legal bytes (well-formed-exactly bytes .0 e) in
-    record {
-      lengths = cut-lengths (values-of bytes) (drop (9 + 5 * count-of bytes) bytes) rest;
-      joined = cut-joined (values-of bytes) (drop (9 + 5 * count-of bytes) bytes) rest;
-      encoded = λ f l. encoded-exactly (getD (texts-of bytes) f []) .0 (every-one (texts-of bytes) legal f l);
-    }
+    let texts = drop (9 + 5 * count-of bytes) bytes in
+    let rest : text-bytes (values-of bytes) ≡ length texts = omega (arith, size, length-drop (9 + 5 * count-of bytes) bytes) in
+    (cut-lengths (values-of bytes) texts rest, cut-joined (values-of bytes) texts rest)

@@ -11,7 +11,7 @@ use Rattle.table.specs.Lists.{matched}
 use Rattle.table.specs.Table.{Field, Table, sound}
 use Rattle.table.specs.View.{Words, label-of, view}
 use Rattle.utf8.specs.Scalars.{Encoded}
-use Rattle.message.specs.Message.{Value, Message, count-of, values-of, read, text-length, texts-of, well-formed, front, broken, has-label}
+use Rattle.message.specs.Message.{Value, Message, count-of, values-of, read, text-length, texts-of, legal-texts, well-formed, front, broken, has-label}
 use Rattle.message.specs.Judge.{same-kind, in-range, carries, allows, selected, allowed, forbidden, judge}
 use Rattle.message.specs.Make.{branch, branch-message, making}
 
@@ -81,15 +81,17 @@ UnbrokenAnnounces = (bytes : List ℕ) → 29 ≤ length bytes → broken bytes 
 
 -- ---- the texts
 
--- one for each field, as long as the field announces, each the encoding of scalar values; one behind the other they are all that stands
--- behind the arrays, so that no byte is left out and none is in two
-pub record TextsApart (bytes : List ℕ) : Type 0 where
-  pub lengths : map length (texts-of bytes) ≡ map text-length (values-of bytes)
-  pub joined : flatten (texts-of bytes) ≡ drop (9 + 5 * count-of bytes) bytes
-  pub encoded : (f : ℕ) → f < length (texts-of bytes) → Encoded (getD (texts-of bytes) f [])
-
+-- 22 gets a yes exactly when each text is the encoding of scalar values
 abbrev pub EachTextEncoded : Type 0
-EachTextEncoded = (bytes : List ℕ) → well-formed bytes ≡ true → TextsApart bytes
+EachTextEncoded =
+    (bytes : List ℕ) → legal-texts bytes ≡ true ↔ ((f : ℕ) → f < length (texts-of bytes) → Encoded (getD (texts-of bytes) f []))
+
+-- of a well-formed message there is one for each field, as long as the field announces; one behind the other they are all that stands
+-- behind the arrays, so that no byte is left out and none is in two
+abbrev pub TextsApart : Type 0
+TextsApart =
+    (bytes : List ℕ) → well-formed bytes ≡ true
+    → (map length (texts-of bytes) ≡ map text-length (values-of bytes)) × (flatten (texts-of bytes) ≡ drop (9 + 5 * count-of bytes) bytes)
 
 -- ---- a made message
 
