@@ -15,7 +15,7 @@ use Rattle.table.proofs.Lists.{both, join, alike}
 use Rattle.table.proofs.Labels.{byte, label-bytes}
 use Rattle.table.proofs.Facts.{label-eq, same-eq, same-refl}
 use Rattle.message.specs.Message.{has-label}
-use Rattle.utf8.specs.Steps.{word-here}
+use Rattle.message.specs.Layout.{word-here}
 use Rattle.message.specs.Theorems.{LabelInPlace}
 use Rattle.message.proofs.Reading.{part-places}
 

@@ -11,9 +11,9 @@ use lib.ListN.{length, getD, take, drop, length-drop, drop-of-length-le}
 use lib.Seq.{drop-cons}
 use lib.Dec.{lit<, eqb}
 use borrow.Author.Tests.{eq-eqb, ne-eqb}
-use lib.Bits.{bitAnd, and-block, and-high}
+use lib.Bits.{bitAnd, bitOr, and-block, and-high, and-le-l, and-le-r, or-add-and}
 use Rattle.utf8.specs.Utf8.{Range, _to_, utf8-tail, within, octets, is-utf8}
-use Rattle.utf8.specs.Steps.{size, second, word-here, is-ascii, Spans, Ascii, AsciiTo, Width}
+use Rattle.utf8.specs.Steps.{size, second, low-first, is-ascii, Spans, Ascii, AsciiTo, Width}
 use Rattle.utf8.proofs.Leads.{inside, above, both, within-says, tails, due, lead, no-lead, lead-one, lt-or-ge}
 
 fails : (t : Bool) {u : Bool} → u ≡ false → (t && u) ≡ false
@@ -38,7 +38,7 @@ unfolding due
 due-length a zero = refl
 due-length a (suc n) = ap suc (tails-length n)
 
--- ---- a word of bytes, high byte first, and the high bit of each
+-- ---- a word of bytes, one byte after another, and the high bit of each
 
 unfoldable horner : (ℕ → ℕ) → ℕ → ℕ
 horner f zero = 0
@@ -158,7 +158,8 @@ module _ (bs : List ℕ) where
       ascii-run k n (omega arith) (λ i m. h i (omega arith)) ∙ ap (octets []) (from (k + n) (omega arith))
       ∙ lead-one (at (k + n)) (drop (k + n + 1) bs) (h n (omega arith)) ∙ ap (λ j. octets [] (drop j bs)) q
 
-  words : (k : ℕ) → word-here bs k * 4294967296 + word-here bs (k + 4) ≡ horner (λ i. at (k + i)) 8
+  -- the last byte is the highest
+  words : (k : ℕ) → low-first bs k + low-first bs (k + 4) * 4294967296 ≡ horner (λ i. at (k + (7 - i))) 8
   unfolding horner
   words k =
       omega (
@@ -173,15 +174,15 @@ module _ (bs : List ℕ) where
       same i j q = ap at q
 
   pub ascii-eight : (k : ℕ) → k + 8 ≤ length bs → ((i : ℕ) → at i < 256)
-      → bitAnd (word-here bs k * 4294967296 + word-here bs (k + 4)) 0x8080_8080_8080_8080 ≡ 0 → Ascii bs k (k + 8)
+      → bitAnd (low-first bs k + low-first bs (k + 4) * 4294967296) 0x8080_8080_8080_8080 ≡ 0 → Ascii bs k (k + 8)
   unfolding mask
   ascii-eight k l small e = record { onward = omega arith; inside = l; low = here }
     where
-      lows : (i : ℕ) → i < 8 → at (k + i) < 128
-      lows = all-low (λ i. at (k + i)) (λ i. small (k + i)) 8 (ap (λ w. bitAnd w 0x8080_8080_8080_8080) (sym (words k)) ∙ e)
+      lows : (i : ℕ) → i < 8 → at (k + (7 - i)) < 128
+      lows = all-low (λ i. at (k + (7 - i))) (λ i. small (k + (7 - i))) 8 (ap (λ w. bitAnd w 0x8080_8080_8080_8080) (sym (words k)) ∙ e)
 
       here : (j : ℕ) → k ≤ j → j < k + 8 → at j < 128
-      here j f g = let q : k + (j - k) ≡ j = omega arith in subst (λ i. at i < 128) q (lows (j - k) (omega arith))
+      here j f g = let q : k + (7 - (7 - (j - k))) ≡ j = omega arith in subst (λ i. at i < 128) q (lows (7 - (j - k)) (omega arith))
 
   pub ascii-letter : (k : ℕ) → k < length bs → at k < 128 → Ascii bs k (k + 1)
   ascii-letter k l h = record { onward = omega arith; inside = omega arith; low = λ j f g. let q : j ≡ k = omega arith in rw q h }
@@ -208,6 +209,12 @@ ascii-on {bs} {i} {j} {k} a b = record {
 }
 
 -- a word more, to the place n
+-- two that have no bit together have none
+pub neither-bits : (a b : ℕ) → bitOr a b ≡ 0 → (a ≡ 0) × (b ≡ 0)
+neither-bits a b e =
+    let s = or-add-and a b in
+    (omega (arith, s, e, and-le-r a b), omega (arith, s, e, and-le-l a b))
+
 pub ascii-more : (bs : List ℕ) (i j n : ℕ) → j + 8 ≡ n → Ascii bs i j → Ascii bs j (j + 8) → Ascii bs i n
 ascii-more bs i j n q a b = subst (λ k. Ascii bs i k) q (ascii-on a b)
 

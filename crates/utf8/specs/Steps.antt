@@ -48,7 +48,7 @@ second a =
     cond (eqb a 0xE0) (0xA0 to 0xBF)
     (cond (eqb a 0xED) (0x80 to 0x9F) (cond (eqb a 0xF0) (0x90 to 0xBF) (cond (eqb a 0xF4) (0x80 to 0x8F) utf8-tail)))
 
--- four bytes from a place on as one number, high byte first
-abbrev pub word-here : List ℕ → ℕ → ℕ
-word-here bs at =
-    ((getD bs at 0 * 256 + getD bs (at + 1) 0) * 256 + getD bs (at + 2) 0) * 256 + getD bs (at + 3) 0
+-- four bytes from a place on as one number, low byte first
+abbrev pub low-first : List ℕ → ℕ → ℕ
+low-first bs at =
+    ((getD bs (at + 3) 0 * 256 + getD bs (at + 2) 0) * 256 + getD bs (at + 1) 0) * 256 + getD bs at 0

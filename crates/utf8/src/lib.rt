@@ -4,7 +4,7 @@ ghost use mathlib.Core.Bool.{true};
 ghost use Prim.Native.Nat.{_+_, _≤_, _<_};
 ghost use lib.ListN.{length, getD};
 ghost use Rattle.utf8.specs.Utf8.{is-utf8, within, _to_};
-ghost use Rattle.utf8.specs.Steps.{is-ascii, Ascii, AsciiTo, Width, size, second, word-here};
+ghost use Rattle.utf8.specs.Steps.{is-ascii, Ascii, AsciiTo, Width, size, second, low-first};
 
 // Whether the bytes are well-formed UTF-8: a word at a time behind an ASCII byte, else one character after another.
 pub fn is_utf8(bytes: &[u8]) -> bool
@@ -47,21 +47,14 @@ fn blocks(bytes: &[u8]) -> usize
     i
 }
 
-// Whether four words at a place are ASCII.
+// Whether four words at a place are ASCII, by one test.
 fn block(bytes: &[u8], at: usize) -> bool
     requires { ⌜ at + 32 ≤ length (now bytes) ⌝ }
     ensures { λ r. ⌜ (r ≡ true → Ascii (now (bytes .entry)) at (at + 32)) ⌝ }
 {
-    if !eight(bytes, at) {
-        return false;
-    }
-    if !eight(bytes, at + 8) {
-        return false;
-    }
-    if !eight(bytes, at + 16) {
-        return false;
-    }
-    eight(bytes, at + 24)
+    let front = high(bytes, at) | high(bytes, at + 8);
+    let back = high(bytes, at + 16) | high(bytes, at + 24);
+    front | back == 0
 }
 
 // How far ASCII goes from a place on: by words, and the last few bytes one by one.
@@ -71,7 +64,7 @@ fn ascii(bytes: &[u8], from: usize) -> usize
 {
     let mut i = from;
     while 8 <= bytes.len() - i {
-        if !eight(bytes, i) {
+        if high(bytes, i) != 0 {
             return letters(bytes, i);
         }
         i += 8;
@@ -94,22 +87,22 @@ fn letters(bytes: &[u8], from: usize) -> usize
     i
 }
 
-// Whether the word of eight bytes at a place has no high bit set.
-fn eight(bytes: &[u8], at: usize) -> bool
+// The high bits of the word of eight bytes at a place.
+fn high(bytes: &[u8], at: usize) -> u64
     requires { ⌜ at + 8 ≤ length (now bytes) ⌝ }
-    ensures { λ r. ⌜ (r ≡ true → Ascii (now (bytes .entry)) at (at + 8)) ⌝ }
+    ensures { λ r. ⌜ (r ≡ 0 → Ascii (now (bytes .entry)) at (at + 8)) ⌝ }
 {
-    let w = word(bytes, at) * 4294967296 + word(bytes, at + 4);
-    w & 0x8080_8080_8080_8080 == 0
+    let w = word(bytes, at) + word(bytes, at + 4) * 4294967296;
+    w & 0x8080_8080_8080_8080
 }
 
-// Four bytes as one number, high byte first.
+// Four bytes as one number, low byte first: as the machine loads them, so that no byte is moved.
 fn word(bytes: &[u8], at: usize) -> u64
     requires { ⌜ at + 4 ≤ length (now bytes) ⌝ }
-    ensures { λ r. ⌜ (r ≡ word-here (now (bytes .entry)) at) × (r < 4294967296) ⌝ }
+    ensures { λ r. ⌜ (r ≡ low-first (now (bytes .entry)) at) × (r < 4294967296) ⌝ }
 {
-    ((bytes[at] as u64 * 256 + bytes[at + 1] as u64) * 256 + bytes[at + 2] as u64) * 256
-        + bytes[at + 3] as u64
+    ((bytes[at + 3] as u64 * 256 + bytes[at + 2] as u64) * 256 + bytes[at + 1] as u64) * 256
+        + bytes[at] as u64
 }
 
 // The length of the character at a place; 0 where none stands there.

@@ -2,7 +2,6 @@
 use Prim.Native.Nat.{_-_}
 use lib.ListN.{length}
 use borrow.Author.Needs.{needs}
-use borrow.Author.Tests.{not-false}
 use Rattle.utf8.specs.Steps.{Ascii}
 use Rattle.utf8.proofs.Places.{ascii-none, ascii-on, ascii-to}
 use Rattle.utf8.proofs.ascii.Statement.{statement}
@@ -21,7 +20,7 @@ returns : tie.Need-returns Inv-loop μ-loop
 returns c = ascii-to (c .before .before .before .before .loop .inv) (c .letters .ensures)
 
 loop-again : tie.Need-loop-again Inv-loop μ-loop
-loop-again c = ascii-on (c .before .before .before .loop .inv) (c .before .eight .ensures (not-false _ (c .if1 .left)))
+loop-again c = ascii-on (c .before .before .before .loop .inv) (c .before .high .ensures (c .if1 .left))
 
 returns-2 : tie.Need-returns-2 Inv-loop μ-loop
 returns-2 c = ascii-to (c .before .before .loop .inv) (c .letters2 .ensures)
