@@ -60,6 +60,12 @@ high-bits x m b h e =
         let q : b / 128 ≡ 0 = omega arith in
         (omega arith, omega arith)
 
+-- two numbers that have no bit together have none
+pub neither-bits : (a b : ℕ) → bitOr a b ≡ 0 → (a ≡ 0) × (b ≡ 0)
+neither-bits a b e =
+    let s = or-add-and a b in
+    (omega (arith, s, e, and-le-r a b), omega (arith, s, e, and-le-l a b))
+
 all-low : (f : ℕ → ℕ) → ((i : ℕ) → f i < 256) → (n : ℕ) → bitAnd (horner f n) (mask n) ≡ 0 → (i : ℕ) → i < n → f i < 128
 unfolding horner mask
 all-low f small zero e i l = absurd (not-suc-le-zero l)
@@ -158,7 +164,7 @@ module _ (bs : List ℕ) where
       ascii-run k n (omega arith) (λ i m. h i (omega arith)) ∙ ap (octets []) (from (k + n) (omega arith))
       ∙ lead-one (at (k + n)) (drop (k + n + 1) bs) (h n (omega arith)) ∙ ap (λ j. octets [] (drop j bs)) q
 
-  -- the last byte is the highest
+  -- eight bytes, the last of them highest
   words : (k : ℕ) → low-first bs k + low-first bs (k + 4) * 4294967296 ≡ horner (λ i. at (k + (7 - i))) 8
   unfolding horner
   words k =
@@ -209,12 +215,6 @@ ascii-on {bs} {i} {j} {k} a b = record {
 }
 
 -- a word more, to the place n
--- two that have no bit together have none
-pub neither-bits : (a b : ℕ) → bitOr a b ≡ 0 → (a ≡ 0) × (b ≡ 0)
-neither-bits a b e =
-    let s = or-add-and a b in
-    (omega (arith, s, e, and-le-r a b), omega (arith, s, e, and-le-l a b))
-
 pub ascii-more : (bs : List ℕ) (i j n : ℕ) → j + 8 ≡ n → Ascii bs i j → Ascii bs j (j + 8) → Ascii bs i n
 ascii-more bs i j n q a b = subst (λ k. Ascii bs i k) q (ascii-on a b)
 
