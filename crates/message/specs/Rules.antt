@@ -2,24 +2,30 @@
 -- types (types/specs/Types.antt). Demand 2 and the machine of demand 3 are said once, over this.
 -- Assumes nothing.
 use Prim.Native.Nat.{ℕ}
-use mathlib.Core.Bool.{Bool, true, false, cond}
+use mathlib.Core.Bool.{Bool, true, false, _&&_, _||_, cond}
 use mathlib.Core.List.{List, [], _∷_}
 use mathlib.Core.Option.{Option, none, some}
+use lib.Dec.{eqb}
 use Rattle.table.specs.Table.{Sort, is-choice, speaker, is-party, Table, sort}
 use Rattle.table.specs.declared.Party.{Party}
 use Rattle.message.specs.Message.{Message}
-use Rattle.message.specs.Judge.{Judgement, allows, judge}
+use Rattle.message.specs.Judge.{Judgement, forbidden, allows, judge}
 
--- where it begins; at each place its sort, where a message leads if it is allowed there, and the judgement on it
+-- where it begins; at each place its sort, where a message leads if it is allowed there, and the judgement on it; and the edition
 pub record Rules (A : Type 0) : Type 0 where
   pub start : A
   pub sort : A → Sort
   pub allows : A → Message → Option A
   pub judge : A → Message → Judgement A
+  pub edition : ℕ
 
 -- of a table: its states, from 0
 abbrev pub table-rules : Table → Rules ℕ
-table-rules t = record { start = 0; sort = sort t; allows = allows t; judge = judge t }
+table-rules t = record { start = 0; sort = sort t; allows = allows t; judge = judge t; edition = t .edition }
+
+-- the same type under an edition
+abbrev pub under : {A : Type 0} → ℕ → Rules A → Rules A
+under e r = record { start = r .start; sort = r .sort; allows = r .allows; judge = r .judge; edition = e }
 
 -- ---- lists of messages
 
@@ -58,3 +64,13 @@ allowed-list r vs = is-some (led r vs)
 
 unfoldable pub completed-list : {A : Type 0} → Rules A → List Said → Bool
 completed-list r vs = is-some (and-then (led r vs) (λ a. cond (is-choice (r .sort a)) none (some a)))
+
+-- ---- a message out of turn (document 02, request 7)
+
+-- a message of this side is judged at this place: on its own turn and, under edition 2, on the other side's
+unfoldable pub listens : {A : Type 0} → Rules A → A → Party → Bool
+listens r a side = is-party side (turn r a) || (eqb (r .edition) 2 && is-choice (r .sort a))
+
+-- the judgement on what a side says: 4 where it is out of turn, ahead of the reasons of Judge.antt
+unfoldable pub judge-said : {A : Type 0} → Rules A → A → Said → Judgement A
+judge-said r a v = cond (is-party (v .side) (turn r a)) (r .judge a (v .message)) (forbidden 4 none)

@@ -1,22 +1,26 @@
--- Two tables that differ in shares only have the same states and branches.
+-- Two tables that differ in shares and edition only have the same states and branches; those that differ in shares only are such.
 -- Assumes nothing.
 use mathlib.Core.Path.{_≡_, sym, ap, ap₂, _∙_}
 use mathlib.Core.Bool.{_&&_}
 use Prim.Native.Nat.{ℕ}
 use lib.ListN.{length}
 use lib.Dec.{ltb}
-use Rattle.table.specs.Table.{unshared}
-use Rattle.table.specs.View.{Words, states-of, branches-of, view, sound-at, SharesAside}
+use Rattle.table.specs.Table.{unshared, plain-under}
+use Rattle.table.specs.View.{Words, states-of, branches-of, view, sound-at, SharesAside, EditionAside}
 use Rattle.table.proofs.Facts.{sorts-of, branches-of-is}
 use Rattle.table.specs.Table as T
 
-module _ (t u : Words) (h : SharesAside t u) where
+pub editions-too : (t u : Words) → SharesAside t u → EditionAside t u
+unfolding unshared plain-under
+editions-too t u h = record { one = h .one; other = h .other; same = ap (plain-under 1) (h .same) }
+
+module _ (t u : Words) (h : EditionAside t u) where
   pub same-sorts : view t .sorts ≡ view u .sorts
-  unfolding unshared
+  unfolding plain-under
   same-sorts = ap (λ x. x .sorts) (h .same)
 
   pub same-branches : view t .branches ≡ view u .branches
-  unfolding unshared
+  unfolding plain-under
   same-branches = ap (λ x. x .branches) (h .same)
 
   pub same-sort : (i : ℕ) → T.sort (view t) i ≡ T.sort (view u) i

@@ -58,6 +58,10 @@ high-at t k = getD t (1698 + k) 0
 abbrev pub share-at : Words → ℕ → ℕ
 share-at t k = getD t (2210 + k) 0
 
+-- the edition of the standard
+abbrev pub edition-of : Words → ℕ
+edition-of t = getD t 2338 0
+
 abbrev pub field-at : Words → ℕ → T.Field
 field-at t k = record { kind = kind-at t k; low = low-at t k; high = high-at t k }
 
@@ -96,15 +100,20 @@ view t =
       sorts = upto (states-of t) (λ i. sort-of (sort-at t i));
       branches = upto (branches-of t) (branch-at t);
       shares = upto (branches-of t) (share-at t);
+      edition = edition-of t;
     }
 
 -- what only a raw table can break and `view` does not show: a sort's code that is none
 unfoldable pub known : Words → Bool
 known t = every (λ c. leb c 2) (upto (states-of t) (sort-at t))
 
--- question 9: is the table sound, and do its shares keep their rules?
+-- the table is sound, and its shares keep their rules
+unfoldable pub regular-of : Words → Bool
+regular-of t = known t && T.sound (view t) && T.shares-kept (view t)
+
+-- question 9: is it so, and its edition 1 or 2?
 unfoldable pub sound-of : Words → Bool
-sound-of t = known t && T.sound (view t) && T.shares-kept (view t)
+sound-of t = T.known-edition (edition-of t) && regular-of t
 
 -- question 9 where a position is given: is it one of the table's states, too?
 unfoldable pub sound-at : Words → ℕ → Bool
@@ -115,6 +124,12 @@ pub record SharesAside (t u : Words) : Type 0 where
   pub one : sound-of t ≡ true
   pub other : sound-of u ≡ true
   pub same : T.unshared (view t) ≡ T.unshared (view u)
+
+-- two sound tables that differ in shares and edition only
+pub record EditionAside (t u : Words) : Type 0 where
+  pub one : sound-of t ≡ true
+  pub other : sound-of u ≡ true
+  pub same : T.plain-under 1 (view t) ≡ T.plain-under 1 (view u)
 
 -- ---- the dual
 

@@ -3,8 +3,8 @@
 // anything else. Here the dual alone can refuse: by 9, with the empty table.
 ghost use mathlib.Core.Path.{_≡_};
 ghost use Prim.Native.Nat.{_<_};
-ghost use Rattle.table.specs.Table.{legal-label, legal-field};
-ghost use Rattle.table.specs.View.{joined-label, word-at, label-of, sound-of, sound-at, empty-table, opposite-of, turned, dual-of};
+ghost use Rattle.table.specs.Table.{legal-label, legal-field, known-edition};
+ghost use Rattle.table.specs.View.{joined-label, word-at, label-of, regular-of, sound-of, sound-at, empty-table, opposite-of, turned, dual-of};
 ghost use Rattle.table.specs.Scans.{Word};
 
 mod apart;
@@ -24,8 +24,8 @@ pub enum Party {
 //   the first four, the first of them highest;
 // - 512 kinds (0 int, 1 text, 2 flag), lows and highs: field f of branch b has place 4 * b + f. Numbers are in offset form, 2^31 more
 //   than what they stand for: an int, a text's length in bytes, 0 for false, 1 for true.
-// - 128 shares, in thousandths, 0 for none.
-// Words 2338 and 2339 are room for an edition. Nothing looks at them, nor at what is beyond the counts.
+// - 128 shares, in thousandths, 0 for none;
+// - the edition, 1 or 2, and a word that is kept free. Nothing looks at that one, nor at what is beyond the counts.
 pub type Table = [u32; 2340];
 
 pub const STATES: usize = 0;
@@ -52,9 +52,30 @@ pub const HIGH: usize = 1698;
 
 pub const SHARE: usize = 2210;
 
-// Question 9: is the table sound, and do its shares keep their rules? The states that are choices are those that own a branch.
+pub const EDITION: usize = 2338;
+
+// Question 9: is the table sound, do its shares keep their rules, and is its edition 1 or 2?
 pub fn sound(t: &Table) -> bool
     ensures { λ r. ⌜ r ≡ sound-of (now (t .entry)) ⌝ }
+{
+    if !known_edition(t[EDITION]) {
+        return false;
+    }
+    regular(t)
+}
+
+fn known_edition(edition: u32) -> bool
+    ensures { λ r. ⌜ r ≡ known-edition edition ⌝ }
+{
+    if edition == 1 {
+        return true;
+    }
+    edition == 2
+}
+
+// The states that are choices are those that own a branch.
+fn regular(t: &Table) -> bool
+    ensures { λ r. ⌜ r ≡ regular-of (now (t .entry)) ⌝ }
 {
     let m = t[STATES];
     let n = t[BRANCHES];
