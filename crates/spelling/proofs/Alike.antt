@@ -11,10 +11,10 @@ use Rattle.table.specs.Lists.{first-no}
 use Rattle.text.proofs.Asked.{asked}
 use Rattle.table.specs.Table.{Table}
 use Rattle.text.specs.Token.{word-in}
-use Rattle.text.specs.Number.{Signed, signed-in, offset, in-kind, in-share}
+use Rattle.text.specs.Number.{Signed, signed-in, offset, in-kind, in-share, in-edition}
 use Rattle.text.specs.Grammar.{Tok, word, number, sign, tok-of, or-else}
 use Rattle.text.specs.Building.{label-used, denied}
-use Rattle.text.specs.Reading.{Item, just, name, label, type, more, fields, field, low, high, more-fields, dot, share, Open, State, state, open-in, table-in, next-item, meaning, unguarded, owner-in, admits, as-type, is-found, number-in-range, as-share, as-label, token-formed, grammar-allows, name-bound, guarded, ranged, share-ranged, new-label, within, shares-add, target, began, taken, run-tokens, questions}
+use Rattle.text.specs.Reading.{Item, outset, edition, just, name, label, type, more, fields, field, low, high, more-fields, dot, share, Open, State, state, open-in, table-in, next-item, meaning, unguarded, owner-in, admits, as-type, is-found, number-in-range, as-share, as-label, token-formed, grammar-allows, as-edition, edition-known, name-bound, guarded, ranged, share-ranged, new-label, within, shares-add, target, began, taken, run-tokens, questions}
 use Rattle.text.specs.declared.token.Token.{Token}
 use Rattle.text.proofs.Toks.{word-kind, number-kind, kind-word, kind-number}
 use Rattle.text.proofs.Goes.{first-is, rest-is, never-empty, passed}
@@ -54,6 +54,8 @@ module _ (s u : List ℕ) (k j : Token) (same : tok-of s k ≡ tok-of u j) where
 
   -- a test of a name that is used as a type
   type-same : (f : ℕ → Bool) (i : Item) → cond (as-type i (k .kind)) (f (word-in s k)) true ≡ cond (as-type i (j .kind)) (f (word-in u j)) true
+  type-same f outset = word-in-is f true
+  type-same f edition = refl
   type-same f (just n) = refl
   type-same f name = refl
   type-same f label = refl
@@ -68,6 +70,8 @@ module _ (s u : List ℕ) (k j : Token) (same : tok-of s k ≡ tok-of u j) where
   type-same f share = refl
 
   range-same : (i : Item) → admits i (k .kind) ≡ true → number-in-range s k i ≡ number-in-range u j i
+  range-same outset a = refl
+  range-same edition a = refl
   range-same (just n) a = refl
   range-same name a = refl
   range-same label a = refl
@@ -81,7 +85,25 @@ module _ (s u : List ℕ) (k j : Token) (same : tok-of s k ≡ tok-of u j) where
   range-same dot a = refl
   range-same share a = refl
 
+  edition-same : (i : Item) → admits i (k .kind) ≡ true → cond (as-edition i) (in-edition (signed-in s k)) true ≡ cond (as-edition i) (in-edition (signed-in u j)) true
+  edition-same outset a = refl
+  edition-same edition a = ap in-edition (number-same a)
+  edition-same (just n) a = refl
+  edition-same name a = refl
+  edition-same label a = refl
+  edition-same type a = refl
+  edition-same (more σ) a = refl
+  edition-same fields a = refl
+  edition-same field a = refl
+  edition-same (low κ) a = refl
+  edition-same (high κ l) a = refl
+  edition-same more-fields a = refl
+  edition-same dot a = refl
+  edition-same share a = refl
+
   share-same : (i : Item) → admits i (k .kind) ≡ true → cond (as-share i) (in-share (signed-in s k)) true ≡ cond (as-share i) (in-share (signed-in u j)) true
+  share-same outset a = refl
+  share-same edition a = refl
   share-same (just n) a = refl
   share-same name a = refl
   share-same label a = refl
@@ -97,6 +119,8 @@ module _ (s u : List ℕ) (k j : Token) (same : tok-of s k ≡ tok-of u j) where
 
   label-same : (i : Item) (T : Table) (o : ℕ) → admits i (k .kind) ≡ true
       → cond (as-label i) (not (label-used T o (word-in s k))) true ≡ cond (as-label i) (not (label-used T o (word-in u j))) true
+  label-same outset T o a = refl
+  label-same edition T o a = refl
   label-same (just n) T o a = refl
   label-same name T o a = refl
   label-same label T o a = ap (λ (x : ℕ). not (label-used T o x)) (word-same a)
@@ -117,6 +141,10 @@ module _ (s u : List ℕ) (k j : Token) (same : tok-of s k ≡ tok-of u j) where
   allowed-same : (st : State) → grammar-allows s st k ≡ grammar-allows u st j
   unfolding grammar-allows
   allowed-same st = rw kind-same
+
+  known-same : (st : State) → grammar-allows s st k ≡ true → edition-known s st k ≡ edition-known u st j
+  unfolding grammar-allows edition-known
+  known-same st a = edition-same (next-item st) a
 
   named-same : (st : State) → name-bound s st k ≡ name-bound u st j
   unfolding name-bound
@@ -151,15 +179,16 @@ module _ (s u : List ℕ) (k j : Token) (same : tok-of s k ≡ tok-of u j) where
   asked-same st =
       rw (formed-same st, named-same st, guarded-same st, within-same st, added-same st)
       (behind (token-formed u st j)
-      (λ r x n. cond (name-bound u st j) (cond (guarded u st j) (cond r (cond x (cond n (cond (within u st j) (cond (shares-add u st j) 0 20) 8) 7) 19) 6) 5) 4)
-      (grammar-allows s st k) (grammar-allows u st j) (ranged s st k) (ranged u st j) (share-ranged s st k) (share-ranged u st j) (new-label s st k) (new-label u st j) (allowed-same st)
-      (ranged-same st) (shared-same st) (new-same st))
+      (λ v r x n. cond v (cond (name-bound u st j) (cond (guarded u st j) (cond r (cond x (cond n (cond (within u st j) (cond (shares-add u st j) 0 20) 8) 7) 19) 6) 5) 4) 23)
+      (grammar-allows s st k) (grammar-allows u st j) (edition-known s st k) (edition-known u st j) (ranged s st k) (ranged u st j) (share-ranged s st k) (share-ranged u st j) (new-label s st k) (new-label u st j) (allowed-same st)
+      (known-same st) (ranged-same st) (shared-same st) (new-same st))
     where
       -- after 3, what is asked may go by 3
-      behind : (w : Bool) (f : Bool → Bool → Bool → ℕ) (a b r q x y n m : Bool) → a ≡ b → (a ≡ true → r ≡ q) → (a ≡ true → x ≡ y) → (a ≡ true → n ≡ m)
-          → cond w (cond a (f r x n) 3) 2 ≡ cond w (cond b (f q y m) 3) 2
-      behind w f true b r q x y n m e g i h = rw (← e, g refl, i refl, h refl)
-      behind w f false b r q x y n m e g i h = rw (← e)
+      behind : (w : Bool) (f : Bool → Bool → Bool → Bool → ℕ) (a b v t r q x y n m : Bool) → a ≡ b
+          → (a ≡ true → v ≡ t) → (a ≡ true → r ≡ q) → (a ≡ true → x ≡ y) → (a ≡ true → n ≡ m)
+          → cond w (cond a (f v r x n) 3) 2 ≡ cond w (cond b (f t q y m) 3) 2
+      behind w f true b v t r q x y n m e o g i h = rw (← e, o refl, g refl, i refl, h refl)
+      behind w f false b v t r q x y n m e o g i h = rw (← e)
 
   -- ---- the state after the token
 
@@ -174,6 +203,8 @@ module _ (s u : List ℕ) (k j : Token) (same : tok-of s k ≡ tok-of u j) where
   taken-same : (st : State) → grammar-allows s st k ≡ true → taken s st k ≡ taken u st j
   unfolding taken grammar-allows
   taken-same (state [] O b T) a = refl
+  taken-same (state (outset ∷ E) O b T) a = rw (target-same O _, began-same E O _, kind-same)
+  taken-same (state (edition ∷ E) O b T) a = rw (number-same a)
   taken-same (state (just n ∷ E) O b T) a = refl
   taken-same (state (name ∷ E) O b T) a = rw (word-same a)
   taken-same (state (label ∷ E) O b T) a = rw (word-same a)

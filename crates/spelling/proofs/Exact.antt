@@ -1,22 +1,22 @@
--- The types that have a text are those whose names, labels and numbers can be written; and such a type that is legal is read from its text.
+-- The protocols that have a text are those whose names, labels and numbers can be written; and such a one that is legal is read from its text.
 -- Assumes nothing.
 use mathlib.Core.Path.{_≡_, refl}
 use mathlib.Core.Bool.{Bool, _&&_}
 use mathlib.Core.List.{List, [], _∷_}
-use mathlib.Core.Option.{none, some}
+use mathlib.Core.Option.{Option, none, some}
 use Prim.Native.Nat.{ℕ, _+_, _-_, _*_, _≤_}
 use native.Mathlib.Omega.{arith}
 use lib.Dec.{leb}
 use borrow.Author.Tests.{leb-true}
 use Rattle.table.specs.Lists.{every}
 use Rattle.table.proofs.Lists.{both, join, never}
-use Rattle.text.specs.Number.{value-of}
+use Rattle.text.specs.Number.{Signed, value-of}
 use Rattle.text.specs.Filled.{came-out, filled}
-use Rattle.text.specs.Grammar.{SyntaxField, Share, Ty, stop, var, loop, choice, Br, last, also, Tok, sign, arrow, print-more, print-fields, print-share, print, print-br, table-of}
+use Rattle.text.specs.Grammar.{SyntaxField, Share, Ty, stop, var, loop, choice, Br, last, also, Protocol, Tok, sign, arrow, print-more, print-fields, print-share, print, print-br, print-opening, print-text, table-of}
 use Rattle.text.proofs.Bytes.{upper-word}
 use Rattle.text.proofs.Packed.{label-word}
 use Rattle.spelling.specs.Spelling.{a-digit, Digits, Spells, a-sign, a-dot, a-word, a-name, a-zero, a-number, a-negative, Spelt, ran-out, a-blank, a-token}
-use Rattle.spelling.specs.Speller.{spell, Writable, OfFields, OfShare, Of, OfBr}
+use Rattle.spelling.specs.Speller.{spell, Writable, OfFields, OfNumber, Of, OfBr, Spellable}
 use Rattle.spelling.specs.Theorems.{SpellableExactly, SpellRead}
 use Rattle.spelling.proofs.Read.{read-spelt}
 use Rattle.spelling.proofs.Spell.{spell-spelt}
@@ -67,12 +67,12 @@ fields-written : (fs : List SyntaxField) (ts : List Tok) → Written (print-fiel
 fields-written [] ts w = (tt, w .1)
 fields-written (f ∷ fs) ts w = let a = more-written fs ts (w .1 .1 .1 .1 .1 .1) in ((w .1 .1 .0, (w .1 .1 .1 .1 .0, a .0)), a .1)
 
-share-written : (sh : Share) (ts : List Tok) → Written (print-share sh ts) → OfShare Writable sh × Written ts
+share-written : (sh : Share) (ts : List Tok) → Written (print-share sh ts) → OfNumber Writable sh × Written ts
 share-written none ts w = (tt, w)
 share-written (some n) ts w = (w .1 .0, w .1 .1)
 
 mutual
-  pub print-written : (t : Ty) (ts : List Tok) → Written (print t ts) → Of Writable t × Written ts
+  print-written : (t : Ty) (ts : List Tok) → Written (print t ts) → Of Writable t × Written ts
   print-written stop ts w = (tt, w .1)
   print-written (var x) ts w = (w .0, w .1)
   print-written (loop x t) ts w = let a = print-written t ts (w .1 .1 .1) in ((w .1 .0, a .0), a .1)
@@ -93,12 +93,21 @@ mutual
       let c = branches-written bs σ ts (b .1 .1) in
       ((w .1 .0, (a .0, (d .0, (b .0, c .0)))), c .1)
 
+opening-written : (o : Option Signed) (ts : List Tok) → Written (print-opening o ts) → OfNumber Writable o × Written ts
+opening-written none ts w = (tt, w)
+opening-written (some n) ts w = (w .1 .0, w .1 .1)
+
+pub text-written : (p : Protocol) → Written (print-text p) → Spellable p
+text-written p w =
+    let a = opening-written (p .opening) _ w in
+    (a .0, print-written (p .type) (sign 0 ∷ []) (a .1) .0)
+
 -- ---- the theorems
 
--- A type has a text exactly when its names, labels and numbers can be written.
+-- A protocol has a text exactly when its names, labels and numbers can be written.
 pub spellable-exactly : SpellableExactly
-spellable-exactly t = ((λ h. (spell t, spell-spelt t h)), (λ h. print-written t (sign 0 ∷ []) (spelt-written (h .1)) .0))
+spellable-exactly p = ((λ h. (spell p, spell-spelt p h)), (λ h. text-written p (spelt-written (h .1))))
 
--- A legal type that can be written is read from the speller's text, if that is not too long.
+-- A legal protocol that can be written is read from the speller's text, if that is not too long.
 pub spell-read : SpellRead
-spell-read t h l m = read-spelt (spell t) (came-out 0 0 (filled (table-of t))) .1 (t, m, spell-spelt t h, l, refl) .0
+spell-read p h l m = read-spelt (spell p) (came-out 0 0 (filled (table-of p))) .1 (p, m, spell-spelt p h, l, refl) .0

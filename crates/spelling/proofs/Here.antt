@@ -130,7 +130,7 @@ all-dots = ((refl, refl, refl, refl), ((refl, refl, refl, refl), tt))
 
 all-words : Each IsWord word-tokens
 unfolding class-of every letter-or-digit word-kind same matched
-all-words = ((refl, refl, refl, refl), ((refl, refl, refl, refl), ((refl, refl, refl, refl), ((refl, refl, refl, refl), ((refl, refl, refl, refl), tt)))))
+all-words = ((refl, refl, refl, refl), ((refl, refl, refl, refl), ((refl, refl, refl, refl), ((refl, refl, refl, refl), ((refl, refl, refl, refl), ((refl, refl, refl, refl), tt))))))
 
 module _ (s : List ℕ) (p : ℕ) where
   -- a token found, as the grammar sees it

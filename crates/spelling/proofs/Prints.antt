@@ -1,15 +1,15 @@
--- What holds of the signs of the grammar and of a type's names, labels and numbers holds of the tokens that it is written with.
+-- What holds of the signs of the grammar and of a protocol's names, labels and numbers holds of the tokens that it is written with.
 -- Assumes nothing.
 use mathlib.Core.Path.{_≡_, refl}
 use mathlib.Core.Bool.{true}
 use mathlib.Core.List.{List, [], _∷_, _++_}
-use mathlib.Core.Option.{none, some}
+use mathlib.Core.Option.{Option, none, some}
 use Prim.Native.Nat.{ℕ}
 use Rattle.text.specs.Token.{one-of}
 use Rattle.text.specs.Number.{Signed}
-use Rattle.text.specs.Grammar.{Way, sending, receiving, Kind, int, text, flag, SyntaxField, Share, Ty, stop, var, loop, choice, Br, last, also, Tok, word, number, sign, mark, arrow, letter, print-field, print-more, print-fields, print-share, print-head, print, print-br}
+use Rattle.text.specs.Grammar.{Way, sending, receiving, Kind, int, text, flag, SyntaxField, Share, Ty, stop, var, loop, choice, Br, last, also, Protocol, Tok, word, number, sign, mark, arrow, letter, print-field, print-more, print-fields, print-share, print-head, print, print-br, print-opening, print-text}
 use Rattle.spelling.specs.Spelling.{sign-tokens, dot-tokens, word-tokens}
-use Rattle.spelling.specs.Speller.{OfFields, OfShare, Of, OfBr}
+use Rattle.spelling.specs.Speller.{OfFields, OfNumber, Of, OfBr}
 use Rattle.spelling.proofs.Classes.{kinds}
 
 -- the signs, dots and words of the grammar
@@ -39,16 +39,16 @@ module _ (P : Tok → Type 0) (Q : List Tok → Type 0) (word-on : (x : ℕ) (ts
   fields-hold [] ts o q = put _ _ refl q
   fields-hold (f ∷ fs) ts o q = field-holds f _ (o .0) (o .1 .0) (more-hold fs ts (o .1 .1) q)
 
-  share-holds : (sh : Share) (ts : List Tok) → OfShare P sh → Q ts → Q (print-share sh ts)
+  share-holds : (sh : Share) (ts : List Tok) → OfNumber P sh → Q ts → Q (print-share sh ts)
   share-holds none ts o q = q
   share-holds (some n) ts o q = put _ _ refl (number-on _ _ o q)
 
-  head-holds : (σ l : ℕ) (fs : List SyntaxField) (sh : Share) (ts : List Tok) → one-of fixed σ ≡ true → P (word l) → OfFields P fs → OfShare P sh → Q ts
+  head-holds : (σ l : ℕ) (fs : List SyntaxField) (sh : Share) (ts : List Tok) → one-of fixed σ ≡ true → P (word l) → OfFields P fs → OfNumber P sh → Q ts
       → Q (print-head σ l fs sh ts)
   head-holds σ l fs sh ts e p o r q = put _ _ e (word-on _ _ p (put _ _ refl (fields-hold fs _ o (share-holds sh _ r (put _ _ refl q)))))
 
   mutual
-    pub print-holds : (t : Ty) (ts : List Tok) → Of P t → Q ts → Q (print t ts)
+    print-holds : (t : Ty) (ts : List Tok) → Of P t → Q ts → Q (print t ts)
     print-holds stop ts o q = put _ _ refl q
     print-holds (var x) ts o q = word-on _ _ o q
     print-holds (loop x t) ts o q = put _ _ refl (word-on _ _ (o .0) (put _ _ refl (print-holds t ts (o .1) q)))
@@ -59,15 +59,22 @@ module _ (P : Tok → Type 0) (Q : List Tok → Type 0) (word-on : (x : ℕ) (ts
     branches-hold (also l fs sh t bs) σ ts e o q =
         head-holds σ l fs sh _ e (o .0) (o .1 .0) (o .1 .1 .0) (print-holds t _ (o .1 .1 .1 .0) (put _ _ refl (branches-hold bs σ ts e (o .1 .1 .1 .1) q)))
 
+  opening-holds : (o : Option Signed) (ts : List Tok) → OfNumber P o → Q ts → Q (print-opening o ts)
+  opening-holds none ts h q = q
+  opening-holds (some n) ts h q = put _ _ refl (number-on _ _ h q)
+
+  pub text-holds : (p : Protocol) → OfNumber P (p .opening) → Of P (p .type) → Q (sign 0 ∷ []) → Q (print-text p)
+  text-holds p h o q = opening-holds (p .opening) _ h (print-holds (p .type) (sign 0 ∷ []) o q)
+
 -- what holds of all of them
 module _ (P : Tok → Type 0) (w : (x : ℕ) → P (word x)) (n : (x : Signed) → P (number x)) where
   of-fields : (fs : List SyntaxField) → OfFields P fs
   of-fields [] = tt
   of-fields (f ∷ fs) = (n (f .low), (n (f .high), of-fields fs))
 
-  of-share : (sh : Share) → OfShare P sh
-  of-share none = tt
-  of-share (some x) = n x
+  pub of-number : (o : Option Signed) → OfNumber P o
+  of-number none = tt
+  of-number (some x) = n x
 
   mutual
     pub of-all : (t : Ty) → Of P t
@@ -77,5 +84,5 @@ module _ (P : Tok → Type 0) (w : (x : ℕ) → P (word x)) (n : (x : Signed) �
     of-all (choice v bs) = of-branches bs
 
     of-branches : (bs : Br) → OfBr P bs
-    of-branches (last l fs sh t) = (w l, (of-fields fs, (of-share sh, of-all t)))
-    of-branches (also l fs sh t bs) = (w l, (of-fields fs, (of-share sh, (of-all t, of-branches bs))))
+    of-branches (last l fs sh t) = (w l, (of-fields fs, (of-number sh, of-all t)))
+    of-branches (also l fs sh t bs) = (w l, (of-fields fs, (of-number sh, (of-all t, of-branches bs))))

@@ -16,9 +16,9 @@ use Rattle.text.specs.Token.{token}
 use Rattle.text.specs.Scanner.{tokens}
 use Rattle.text.specs.Building.{denied}
 use Rattle.text.specs.Filled.{Reading, refused, written}
-use Rattle.text.specs.Reading.{State, token-formed, grammar-allows, name-bound, guarded, ranged, share-ranged, new-label, within, shares-add, questions, start, run-tokens, built, reads}
+use Rattle.text.specs.Reading.{State, token-formed, grammar-allows, edition-known, name-bound, guarded, ranged, share-ranged, new-label, within, shares-add, questions, start, run-tokens, built, reads}
 use Rattle.text.proofs.Asked.{asked}
-use Rattle.text.specs.Grammar.{Ty, Tok, word, number, sign, print-text, tok-of}
+use Rattle.text.specs.Grammar.{Protocol, Tok, word, number, sign, print-text, tok-of}
 use Rattle.text.specs.declared.token.Token.{Token}
 use Rattle.text.proofs.Toks.{kind-sign}
 use Rattle.text.proofs.Becomes.{MadeUp}
@@ -33,7 +33,7 @@ use Rattle.spelling.proofs.Scan.{spelt-scanned}
 use Rattle.spelling.proofs.Read.{text-formed}
 use Rattle.spelling.proofs.Places.{upto-bad, placed-scanned, read-placed}
 use Rattle.spelling.proofs.Spell.{spell-spelt}
-use Rattle.spelling.proofs.Exact.{spells-writable, Written, print-written}
+use Rattle.spelling.proofs.Exact.{spells-writable, Written, text-written}
 use Rattle.spelling.proofs.Alike.{Stop, stop}
 use Rattle.spelling.proofs.Split.{at-once}
 
@@ -79,20 +79,21 @@ two-asked : (s : List ℕ) (st : State) (k : Token) → asked s st k ≡ 2 → k
 unfolding questions first-no token-formed
 two-asked s st k e =
     eqb-true (k .kind) 1
-    (go (eqb (k .kind) 1) (grammar-allows s st k) (name-bound s st k) (guarded s st k) (ranged s st k) (share-ranged s st k) (new-label s st k) (within s st k) (shares-add s st k) e)
+    (go (eqb (k .kind) 1) (grammar-allows s st k) (edition-known s st k) (name-bound s st k) (guarded s st k) (ranged s st k) (share-ranged s st k) (new-label s st k) (within s st k) (shares-add s st k) e)
   where
-    go : (a b c d e x f g y : Bool)
-        → first-no ((2, not a) ∷ (3, b) ∷ (4, c) ∷ (5, d) ∷ (6, e) ∷ (19, x) ∷ (7, f) ∷ (8, g) ∷ (20, y) ∷ []) ≡ 2 → a ≡ true
-    go true b c d e x f g y h = refl
-    go false false c d e x f g y h = absurd (omega arith)
-    go false true false d e x f g y h = absurd (omega arith)
-    go false true true false e x f g y h = absurd (omega arith)
-    go false true true true false x f g y h = absurd (omega arith)
-    go false true true true true false f g y h = absurd (omega arith)
-    go false true true true true true false g y h = absurd (omega arith)
-    go false true true true true true true false y h = absurd (omega arith)
-    go false true true true true true true true false h = absurd (omega arith)
-    go false true true true true true true true true h = absurd (omega arith)
+    go : (a b m c d e x f g y : Bool)
+        → first-no ((2, not a) ∷ (3, b) ∷ (23, m) ∷ (4, c) ∷ (5, d) ∷ (6, e) ∷ (19, x) ∷ (7, f) ∷ (8, g) ∷ (20, y) ∷ []) ≡ 2 → a ≡ true
+    go true b m c d e x f g y h = refl
+    go false false m c d e x f g y h = absurd (omega arith)
+    go false true false c d e x f g y h = absurd (omega arith)
+    go false true true false d e x f g y h = absurd (omega arith)
+    go false true true true false e x f g y h = absurd (omega arith)
+    go false true true true true false x f g y h = absurd (omega arith)
+    go false true true true true true false f g y h = absurd (omega arith)
+    go false true true true true true true false g y h = absurd (omega arith)
+    go false true true true true true true true false y h = absurd (omega arith)
+    go false true true true true true true true true false h = absurd (omega arith)
+    go false true true true true true true true true true h = absurd (omega arith)
 
 pub two-means : TwoMeans
 unfolding refused denied
@@ -153,20 +154,20 @@ upto-front s [] js w = refl
 upto-front s (k ∷ ks) js w = rw (ne-eqb (k .kind) 1 (λ e. w .0 (bad-sign s k e))) (ap (λ (l : List Token). k ∷ l) (upto-front s ks js (w .1)))
 
 -- the tokens before, and others made up, are those of a text
-text-made : (s : List ℕ) (p : ℕ) (a : At s p) (t : Ty) (us : List Tok) → MadeUp us → print-text t ≡ upto-before a us
-    → (u : List ℕ) × (t : Ty) × (ts : List Tok) × Spelt u (print-text t) × (print-text t ≡ upto-before a ts)
-text-made s p a t us m e =
+text-made : (s : List ℕ) (p : ℕ) (a : At s p) (r : Protocol) (us : List Tok) → MadeUp us → print-text r ≡ upto-before a us
+    → (u : List ℕ) × (r : Protocol) × (ts : List Tok) × Spelt u (print-text r) × (print-text r ≡ upto-before a ts)
+text-made s p a r us m e =
     let w = rw (map-append s (a .before) (a .here ∷ a .rest)) at (placed-written s (a .split) refl) in
     let v = front-written (map (tok-of s) (a .before)) _ us w (made-up-written us m) in
-    (spell t, t, us, spell-spelt t (print-written t (sign 0 ∷ []) (subst Written (sym e) v) .0), e)
+    (spell r, r, us, spell-spelt r (text-written r (subst Written (sym e) v)), e)
 
 pub three-means : ThreeMeans
 unfolding upto-bad
 three-means s p h a = go (three s p h)
   where
     go : Forbidden s p
-        → ((t : Ty) (ts : List Tok) → print-text t ≡ upto-here a ts → ⊥)
-        × ((u : List ℕ) × (t : Ty) × (ts : List Tok) × Spelt u (print-text t) × (print-text t ≡ upto-before a ts))
+        → ((r : Protocol) (ts : List Tok) → print-text r ≡ upto-here a ts → ⊥)
+        × ((u : List ℕ) × (r : Protocol) × (ts : List Tok) × Spelt u (print-text r) × (print-text r ≡ upto-before a ts))
     go f = decide (eqb (f .here .kind) 1) refl
       where
         formed : WellFormed (map (tok-of s) (f .before))
@@ -177,8 +178,8 @@ three-means s p h a = go (three s p h)
 
         -- from a token that is the same as the grammar sees it
         told : (k : Token) (ks : List Token) → Placed s 0 (f .before ++ (k ∷ ks)) → k .start ≡ p → tok-of s k ≡ tok-of s (f .here)
-            → ((t : Ty) (ts : List Tok) → print-text t ≡ upto-here a ts → ⊥)
-            × ((u : List ℕ) × (t : Ty) × (ts : List Tok) × Spelt u (print-text t) × (print-text t ≡ upto-before a ts))
+            → ((r : Protocol) (ts : List Tok) → print-text r ≡ upto-here a ts → ⊥)
+            × ((u : List ℕ) × (r : Protocol) × (ts : List Tok) × Spelt u (print-text r) × (print-text r ≡ upto-before a ts))
         told k ks pl e same =
             let b : At s p = record { before = f .before; here = k; rest = ks; split = pl; place = e } in (
               (λ t ts q. f .none t ts (q ∙ here-same s p a b ts ∙ ap (λ (x : Tok). map (tok-of s) (f .before) ++ (x ∷ ts)) same)),
@@ -186,8 +187,8 @@ three-means s p h a = go (three s p h)
             )
 
         decide : (b : Bool) → eqb (f .here .kind) 1 ≡ b
-            → ((t : Ty) (ts : List Tok) → print-text t ≡ upto-here a ts → ⊥)
-            × ((u : List ℕ) × (t : Ty) × (ts : List Tok) × Spelt u (print-text t) × (print-text t ≡ upto-before a ts))
+            → ((r : Protocol) (ts : List Tok) → print-text r ≡ upto-here a ts → ⊥)
+            × ((u : List ℕ) × (r : Protocol) × (ts : List Tok) × Spelt u (print-text r) × (print-text r ≡ upto-before a ts))
         decide true e =
             told (token 1 (f .here .start) (f .here .start)) [] (rw e at found) (f .place)
             (bad-sign s (token 1 (f .here .start) (f .here .start)) refl ∙ sym (bad-sign s (f .here) (eqb-true (f .here .kind) 1 e)))

@@ -99,18 +99,21 @@ split f (b ∷ u) = go (f b) refl (split f u)
 
 keyword : (w : List ℕ) → (word-kind w ≡ 1 → ⊥) → Listed word-tokens (word-kind w) w
 unfolding word-kind
-keyword w h = go (same w (ascii "end")) refl (same w (ascii "rec")) refl (same w (ascii "int")) refl (same w (ascii "text")) refl (same w (ascii "flag")) refl h
+keyword w h =
+    go (same w (ascii "end")) refl (same w (ascii "rec")) refl (same w (ascii "int")) refl (same w (ascii "text")) refl (same w (ascii "flag")) refl
+    (same w (ascii "edition")) refl h
   where
     go : (a : Bool) → same w (ascii "end") ≡ a → (b : Bool) → same w (ascii "rec") ≡ b → (c : Bool) → same w (ascii "int") ≡ c
-        → (d : Bool) → same w (ascii "text") ≡ d → (f : Bool) → same w (ascii "flag") ≡ f
-        → (_≡_ {A = ℕ} (cond a 101 (cond b 114 (cond c 105 (cond d 116 (cond f 102 1))))) 1 → ⊥)
-        → Listed word-tokens (cond a 101 (cond b 114 (cond c 105 (cond d 116 (cond f 102 1))))) w
-    go true e b i c j d k f l h = inl (refl, same-eq w _ e)
-    go false e true i c j d k f l h = inr (inl (refl, same-eq w _ i))
-    go false e false i true j d k f l h = inr (inr (inl (refl, same-eq w _ j)))
-    go false e false i false j true k f l h = inr (inr (inr (inl (refl, same-eq w _ k))))
-    go false e false i false j false k true l h = inr (inr (inr (inr (inl (refl, same-eq w _ l)))))
-    go false e false i false j false k false l h = absurd (h refl)
+        → (d : Bool) → same w (ascii "text") ≡ d → (f : Bool) → same w (ascii "flag") ≡ f → (g : Bool) → same w (ascii "edition") ≡ g
+        → (_≡_ {A = ℕ} (cond a 101 (cond b 114 (cond c 105 (cond d 116 (cond f 102 (cond g 69 1)))))) 1 → ⊥)
+        → Listed word-tokens (cond a 101 (cond b 114 (cond c 105 (cond d 116 (cond f 102 (cond g 69 1)))))) w
+    go true e b i c j d k f l g m h = inl (refl, same-eq w _ e)
+    go false e true i c j d k f l g m h = inr (inl (refl, same-eq w _ i))
+    go false e false i true j d k f l g m h = inr (inr (inl (refl, same-eq w _ j)))
+    go false e false i false j true k f l g m h = inr (inr (inr (inl (refl, same-eq w _ k))))
+    go false e false i false j false k true l g m h = inr (inr (inr (inr (inl (refl, same-eq w _ l)))))
+    go false e false i false j false k false l true m h = inr (inr (inr (inr (inr (inl (refl, same-eq w _ m))))))
+    go false e false i false j false k false l false m h = absurd (h refl)
 
 nothing-more : (v : List ℕ) → EndsRun (λ b. false) v
 nothing-more [] = tt
@@ -311,7 +314,7 @@ listed-formed es k w a l e = eqb-false k 1 (each-listed (λ k w. eqb k 1 ≡ fal
 pub spells-formed : {t : Tok} {w : List ℕ} {more : ℕ → Bool} → Spells t w more → t ≡ sign 1 → ⊥
 spells-formed (a-sign {k} {w} l) e = listed-formed sign-tokens k w (refl, (refl, (refl, (refl, (refl, (refl, (refl, (refl, (refl, (refl, (refl, (refl, tt)))))))))))) l e
 spells-formed (a-dot {k} {w} l) e = listed-formed dot-tokens k w (refl, (refl, tt)) l e
-spells-formed (a-word {k} {w} l) e = listed-formed word-tokens k w (refl, (refl, (refl, (refl, (refl, tt))))) l e
+spells-formed (a-word {k} {w} l) e = listed-formed word-tokens k w (refl, (refl, (refl, (refl, (refl, (refl, tt)))))) l e
 spells-formed (a-name h) e = omega (arith, ap tag e)
 spells-formed a-zero e = omega (arith, ap tag e)
 spells-formed (a-number h) e = omega (arith, ap tag e)

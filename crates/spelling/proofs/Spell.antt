@@ -15,13 +15,13 @@ use Rattle.table.specs.View.{label-of}
 use Rattle.table.proofs.Lists.{both, join, never, every-append}
 use Rattle.text.specs.Token.{one-of, packed, word-of}
 use Rattle.text.specs.Number.{Signed, value-of}
-use Rattle.text.specs.Grammar.{Ty, Tok, word, number, sign, print-text}
+use Rattle.text.specs.Grammar.{Protocol, Tok, word, number, sign, print-text}
 use Rattle.table.specs.Ascii.{ascii, letters, digits}
 use Rattle.spelling.specs.Spelling.{a-digit, dot, sign-tokens, dot-tokens, word-tokens, Listed, Digits, Spells, a-sign, a-dot, a-word, a-name, a-zero, a-number, a-negative, Spelt, ran-out, a-blank, a-token}
 use Rattle.spelling.specs.Speller.{beside, bytes, spelling, spell, Writable, Spellable}
 use Rattle.spelling.specs.Theorems.{DecimalValue}
 use Rattle.spelling.proofs.Classes.{kinds, beside-listed}
-use Rattle.spelling.proofs.Prints.{fixed, print-holds}
+use Rattle.spelling.proofs.Prints.{fixed, text-holds}
 
 -- ---- names
 
@@ -205,9 +205,9 @@ last-spelt : Spelt (spelling (sign 0 ∷ [])) (sign 0 ∷ [])
 unfolding spelling beside
 last-spelt = a-blank refl ran-out
 
--- A type whose names, labels and numbers can be written has a text that spells it.
-pub spell-spelt : (t : Ty) → Spellable t → Spelt (spell t) (print-text t)
+-- A protocol whose names, labels and numbers can be written has a text that spells it.
+pub spell-spelt : (p : Protocol) → Spellable p → Spelt (spell p) (print-text p)
 unfolding spell
-spell-spelt t h =
-    print-holds Writable (λ ts. Spelt (spelling ts) ts) (λ x ts w. spelling-on (word x) ts (word-spelled x w)) (λ n ts w. spelling-on (number n) ts (number-spelled n w))
-    (λ k ts e. spelling-on (sign k) ts (fixed-spelled k e)) t (sign 0 ∷ []) h last-spelt
+spell-spelt p h =
+    text-holds Writable (λ ts. Spelt (spelling ts) ts) (λ x ts w. spelling-on (word x) ts (word-spelled x w)) (λ n ts w. spelling-on (number n) ts (number-spelled n w))
+    (λ k ts e. spelling-on (sign k) ts (fixed-spelled k e)) p (h .0) (h .1) last-spelt

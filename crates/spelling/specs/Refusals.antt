@@ -1,10 +1,10 @@
 -- What a refusal at a token implies, in tokens that stand in the text (document 01, questions 2 to 8; document 02, request 4, questions
--- 19 and 20).
+-- 19 and 20, and request 7, question 23).
 -- Assumes nothing.
 use mathlib.Core.Path.{_≡_}
 use mathlib.Core.List.{List, _∷_, _++_, map}
 use Prim.Native.Nat.{ℕ, _≤_}
-use Rattle.text.specs.Grammar.{Ty, Tok, print-text, tok-of}
+use Rattle.text.specs.Grammar.{Protocol, Tok, print-text, tok-of}
 use Rattle.text.specs.Filled.{refused}
 use Rattle.text.specs.Reading.{reads}
 use Rattle.text.specs.declared.token.Token.{Token}
@@ -37,10 +37,10 @@ RefusedMeans =
 abbrev pub TwoMeans : Type 0
 TwoMeans = (s : List ℕ) (p : ℕ) → reads s ≡ refused 2 p → (a : At s p) → a .here .kind ≡ K.malformed
 
--- By 3, besides: no type's tokens, the type legal or not, begin with them; and there is a text of a type whose tokens begin with those
--- before.
+-- By 3, besides: no protocol's tokens, the protocol legal or not, begin with them; and there is a text of a protocol whose tokens begin with
+-- those before.
 abbrev pub ThreeMeans : Type 0
 ThreeMeans =
-    (s : List ℕ) (p : ℕ) → reads s ≡ refused 3 p → (a : At s p)
-    → ((t : Ty) (ts : List Tok) → print-text t ≡ upto-here a ts → ⊥)
-    × ((u : List ℕ) × (t : Ty) × (ts : List Tok) × Spelt u (print-text t) × (print-text t ≡ upto-before a ts))
+    (s : List ℕ) (at : ℕ) → reads s ≡ refused 3 at → (a : At s at)
+    → ((p : Protocol) (ts : List Tok) → print-text p ≡ upto-here a ts → ⊥)
+    × ((u : List ℕ) × (p : Protocol) × (ts : List Tok) × Spelt u (print-text p) × (print-text p ≡ upto-before a ts))

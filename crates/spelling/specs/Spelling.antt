@@ -43,7 +43,7 @@ abbrev pub dot-tokens : List (ℕ × String)
 dot-tokens = own "." ∷ (K.dots, "..") ∷ []
 
 abbrev pub word-tokens : List (ℕ × String)
-word-tokens = map own ("end" ∷ "rec" ∷ "int" ∷ "text" ∷ "flag" ∷ [])
+word-tokens = own "end" ∷ own "rec" ∷ own "int" ∷ own "text" ∷ own "flag" ∷ (K.edition, "edition") ∷ []
 
 -- w is what stands beside k in a list
 abbrev pub Listed : List (ℕ × String) → ℕ → List ℕ → Type 0

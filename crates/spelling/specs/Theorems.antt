@@ -12,7 +12,7 @@ use Rattle.table.specs.View.{label-of, view, sound-of}
 use Rattle.text.specs.Token.{word-of}
 use Rattle.text.specs.Scanner.{tokens}
 use Rattle.text.specs.Number.{value-of}
-use Rattle.text.specs.Grammar.{text-limit, Ty, Tok, sign, print-text, tok-of, Writes, table-of, Legal}
+use Rattle.text.specs.Grammar.{text-limit, Protocol, Tok, sign, print-text, tok-of, Writes, table-of, Legal}
 use Rattle.text.specs.Building.{denied}
 use Rattle.text.specs.Filled.{Reading, came-out, filled, padded, written}
 use Rattle.text.specs.Reading.{start, run-tokens, reads}
@@ -38,29 +38,29 @@ SpeltScanned = (s : List ℕ) (ts : List Tok) → Spelt s ts ↔ ((map (tok-of s
 abbrev pub SpeltOnce : Type 0
 SpeltOnce = (s : List ℕ) (ts us : List Tok) → Spelt s ts → Spelt s us → ts ≡ us
 
--- The scanner finds a type's tokens in a text that is not too long exactly when the text spells them.
+-- The scanner finds a protocol's tokens in a text that is not too long exactly when the text spells them.
 abbrev pub WritesSpelt : Type 0
-WritesSpelt = (s : List ℕ) (t : Ty) → Writes s t ↔ ((length s ≤ text-limit) × Spelt s (print-text t))
+WritesSpelt = (s : List ℕ) (p : Protocol) → Writes s p ↔ ((length s ≤ text-limit) × Spelt s (print-text p))
 
--- A text spells at most one type.
-abbrev pub TypeOnce : Type 0
-TypeOnce = (s : List ℕ) (t u : Ty) → Spelt s (print-text t) → Spelt s (print-text u) → t ≡ u
+-- A text spells at most one protocol.
+abbrev pub ProtocolOnce : Type 0
+ProtocolOnce = (s : List ℕ) (p r : Protocol) → Spelt s (print-text p) → Spelt s (print-text r) → p ≡ r
 
 -- ---- reading
 
--- A text is read, into r, exactly when it is at most 8,192 bytes long and spells a legal type, and r is that type's table.
+-- A text is read, into r, exactly when it is at most 8,192 bytes long and spells a legal protocol, and r is that protocol's table.
 abbrev pub ReadExactly : Type 0
 ReadExactly =
     (s : List ℕ) (r : Reading)
     → ((reads s ≡ r) × (r .question ≡ 0))
-    ↔ ((t : Ty) × (length s ≤ text-limit) × Spelt s (print-text t) × Legal t × (r ≡ came-out 0 0 (filled (table-of t))))
+    ↔ ((p : Protocol) × (length s ≤ text-limit) × Spelt s (print-text p) × Legal p × (r ≡ came-out 0 0 (filled (table-of p))))
 
 -- The same of what is seen of the table's words.
 abbrev pub ReadSeen : Type 0
 ReadSeen =
     (s : List ℕ) (T : T.Table)
     → ((reads s .question ≡ 0) × (view (reads s .table) ≡ T))
-    ↔ ((t : Ty) × (length s ≤ text-limit) × Spelt s (print-text t) × Legal t × (T ≡ table-of t))
+    ↔ ((p : Protocol) × (length s ≤ text-limit) × Spelt s (print-text p) × Legal p × (T ≡ table-of p))
 
 -- Reading any text, refusals and their places included, asks the questions at the tokens that stand in it.
 abbrev pub ReadPlaced : Type 0
@@ -79,13 +79,13 @@ ReadSound = (s : List ℕ) → reads s .question ≡ 0 → sound-of (reads s .ta
 abbrev pub DecimalValue : Type 0
 DecimalValue = (n : ℕ) → value-of 0 (digits (suc n) n) ≡ n
 
--- A type has a text exactly when its names, labels and numbers can be written.
+-- A protocol has a text exactly when its names, labels and numbers can be written.
 abbrev pub SpellableExactly : Type 0
-SpellableExactly = (t : Ty) → Spellable t ↔ ((s : List ℕ) × Spelt s (print-text t))
+SpellableExactly = (p : Protocol) → Spellable p ↔ ((s : List ℕ) × Spelt s (print-text p))
 
--- The speller's text of a legal type is read, where it is not too long.
+-- The speller's text of a legal protocol is read, where it is not too long.
 abbrev pub SpellRead : Type 0
-SpellRead = (t : Ty) → Spellable t → Legal t → length (spell t) ≤ text-limit → reads (spell t) ≡ came-out 0 0 (filled (table-of t))
+SpellRead = (p : Protocol) → Spellable p → Legal p → length (spell p) ≤ text-limit → reads (spell p) ≡ came-out 0 0 (filled (table-of p))
 
 -- ---- names
 

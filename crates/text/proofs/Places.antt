@@ -19,7 +19,7 @@ use Rattle.text.proofs.Span.{token-spans}
 
 abbrev Small : List (ℕ × Bool) → Type 0
 Small [] = Unit {0}
-Small (q ∷ qs) = (q .0 ≤ 20) × Small qs
+Small (q ∷ qs) = (q .0 ≤ 23) × Small qs
 
 place-within : (n : ℕ) (s : List ℕ) (p : ℕ) (st : State) → run-tokens s st (tokens-from n s p) .at ≤ length s
 unfolding run-tokens tokens-from denied
@@ -37,30 +37,30 @@ place-within (suc n) s p st = go (eqb (asked s st (token-at s p)) 0) (place-with
     go true h = on (eqb (token-at s p .kind) 0) h
     go false h = let w = token-spans s p in omega (arith, w .forward, w .inside)
 
--- a question's number is at most 20
-first-small : (qs : List (ℕ × Bool)) → Small qs → first-no qs ≤ 20
+-- a question's number is at most 23
+first-small : (qs : List (ℕ × Bool)) → Small qs → first-no qs ≤ 23
 unfolding first-no
 first-small [] h = zero-le
 first-small (q ∷ qs) h = go (q .1) (first-small qs (h .1))
   where
-    go : (b : Bool) → first-no qs ≤ 20 → cond b (first-no qs) (q .0) ≤ 20
+    go : (b : Bool) → first-no qs ≤ 23 → cond b (first-no qs) (q .0) ≤ 23
     go true l = l
     go false l = h .0
 
-run-small : (s : List ℕ) (st : State) (ks : List Token) → run-tokens s st ks .question ≤ 20
+run-small : (s : List ℕ) (st : State) (ks : List Token) → run-tokens s st ks .question ≤ 23
 unfolding run-tokens denied first-no questions
 run-small s st [] = zero-le
 run-small s st (k ∷ ks) = go (eqb (asked s st k) 0) (run-small s (taken s st k) ks)
   where
-    go : (b : Bool) → run-tokens s (taken s st k) ks .question ≤ 20 → cond b (run-tokens s (taken s st k) ks) (denied (asked s st k) (k .start)) .question ≤ 20
+    go : (b : Bool) → run-tokens s (taken s st k) ks .question ≤ 23 → cond b (run-tokens s (taken s st k) ks) (denied (asked s st k) (k .start)) .question ≤ 23
     go true l = l
-    go false l = first-small (questions s st k) (omega arith, (omega arith, (omega arith, (omega arith, (omega arith, (omega arith, (omega arith, (omega arith, (omega arith, tt)))))))))
+    go false l = first-small (questions s st k) (omega arith, (omega arith, (omega arith, (omega arith, (omega arith, (omega arith, (omega arith, (omega arith, (omega arith, (omega arith, tt))))))))))
 
-question-small : (s : List ℕ) → built s .question ≤ 20
+question-small : (s : List ℕ) → built s .question ≤ 23
 unfolding built denied
 question-small s = go (leb (length s) 8192)
   where
-    go : (b : Bool) → cond b (run-tokens s start (tokens s)) (denied 1 0) .question ≤ 20
+    go : (b : Bool) → cond b (run-tokens s start (tokens s)) (denied 1 0) .question ≤ 23
     go true = run-small s start (tokens s)
     go false = omega arith
 
@@ -77,5 +77,5 @@ pub small : (s : List ℕ) (r : Reading) → r ≡ reads s → (r .question < 65
 unfolding reads
 small s r e = rw e (go (question-small s) (place-small s))
   where
-    go : built s .question ≤ 20 → built s .at ≤ 8192 → (built s .question < 65536) × (built s .at < 65536)
+    go : built s .question ≤ 23 → built s .at ≤ 8192 → (built s .question < 65536) × (built s .at < 65536)
     go q p = (omega arith, omega arith)

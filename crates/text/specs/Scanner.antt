@@ -53,13 +53,14 @@ run-end f s p = p + run-of f (drop p s)
 
 -- ---- tokens
 
--- a word that begins in lower case must be one of: end rec int text flag
+-- a word that begins in lower case must be one of: end rec int text flag edition
 unfoldable pub word-kind : List ℕ → ℕ
 word-kind w =
     cond (same w (ascii "end")) (K.of "end")
     (cond (same w (ascii "rec")) (K.of "rec")
     (cond (same w (ascii "int")) (K.of "int")
-    (cond (same w (ascii "text")) (K.of "text") (cond (same w (ascii "flag")) (K.of "flag") K.malformed))))
+    (cond (same w (ascii "text")) (K.of "text")
+    (cond (same w (ascii "flag")) (K.of "flag") (cond (same w (ascii "edition")) K.edition K.malformed)))))
 
 unfoldable pub word-token : List ℕ → ℕ → Token
 word-token s a = token (word-kind (part s a (run-end letter-or-digit s a))) a (run-end letter-or-digit s a)

@@ -1,4 +1,4 @@
-// The limits of document 01 that reading asks about (questions 1 and 8).
+// The limits that reading asks about (questions 1, 8, 19 and 23).
 
 // The bytes of a text.
 pub const BYTES: usize = 8192;
@@ -12,3 +12,8 @@ pub const FIELDS: u32 = 4;
 
 // The choices and `rec`s that are open around one another.
 pub const OPEN: usize = 16;
+
+// The highest share, and the highest edition.
+pub const SHARE: u32 = 1000;
+
+pub const EDITION: u32 = 2;

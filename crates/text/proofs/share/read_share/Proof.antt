@@ -24,14 +24,14 @@ returns-3 : tie.Need-returns-3
 unfolding shared-at dotted then-dot
 returns-3 c =
     let x = expect-yes _ _ _ _ (c .before .before .before .before .before .expect-sign .ensures) (c .before .before .before .if2 .left) in
-    rw (x .0, ← x .1, ← c .before .before .share-number .ensures, ne-eqb _ _ (c .if3 .taken))
+    rw (x .0, ← x .1, ← c .before .before .count-at .ensures, ne-eqb _ _ (c .if3 .taken))
 
 returns-4 : tie.Need-returns-4
 unfolding shared-at dotted then-dot
 returns-4 c =
     let x = expect-yes _ _ _ _ (c .before .before .before .before .before .before .before .expect-sign .ensures) (c .before .before .before .before .before .if2 .left) in
     c .answer3 .ensures
-    ∙ rw (x .0, ← x .1, ← c .before .before .before .before .share-number .ensures, eq-eqb _ _ (c .before .before .if3 .left), ← c .before .expect-dot2 .ensures)
+    ∙ rw (x .0, ← x .1, ← c .before .before .before .before .count-at .ensures, eq-eqb _ _ (c .before .before .if3 .left), ← c .before .expect-dot2 .ensures)
 
 pub read-share-spec : {M : Type 1} → statement M
 read-share-spec =
