@@ -8,13 +8,14 @@ use Prim.Native.Nat.{ℕ, zero, suc, _+_}
 use lib.ListN.{length, take, drop, getD}
 use lib.Dec.{leb, eqb}
 use Rattle.table.specs.Lists.{every, upto, sum-of}
-use Rattle.table.specs.Table.{Sort, ends, Branch, is-choice, sort, of-choice}
-use Rattle.table.specs.View.{Words, states-of, branches-of, view, SharesAside}
+use Rattle.table.specs.Table.{Sort, ends, Branch, is-choice, Table, sort, of-choice, unshared}
+use Rattle.table.specs.View.{Words, states-of, branches-of, view, SharesAside, EditionAside}
 use Rattle.table.specs.declared.Party.{Party}
 use Rattle.table.specs.declared.Party.the-variants.{Device, Host}
-use Rattle.table.proofs.Aside.{same-sorts, same-branches, same-sort, same-states, same-count, same-sound}
+use Rattle.table.proofs.Aside.{editions-too, same-sorts, same-branches, same-sort, same-states, same-count, same-sound}
 use Rattle.message.specs.Message.{Message, read}
 use Rattle.message.specs.Judge.{selected, judge}
+use Rattle.message.specs.Rules.{Said, table-rules, judge-said}
 use Rattle.monitor.specs.declared.State.{State}
 use Rattle.monitor.specs.Step.{of-state, step-questions, Told, refused, blamed, forwarded, stepping}
 use Rattle.monitor.specs.Due.{Awaited, of-side, awaited, first-length}
@@ -26,24 +27,39 @@ use Rattle.monitor.specs.Counts.{Counts, setting-of, n-at, k-at, counted
 use Rattle.monitor.specs.Counting.{counts-after, SharesUnseen}
 
 module _ (t u : Words) (h : SharesAside t u) where
+  a : EditionAside t u
+  a = editions-too t u h
+
   -- ---- steps
 
   same-judge : (i : ℕ) (m : Message) → judge (view t) i m ≡ judge (view u) i m
   unfolding judge
-  same-judge i m = rw (same-branches t u h)
+  same-judge i m = rw (same-branches t u a)
 
   same-chosen : (i : ℕ) (m : Message) → selected (view t) i m ≡ selected (view u) i m
   unfolding selected
-  same-chosen i m = rw (same-branches t u h)
+  same-chosen i m = rw (same-branches t u a)
+
+  same-edition : view t .edition ≡ view u .edition
+  unfolding unshared
+  same-edition = ap (λ (x : Table). x .edition) (h .same)
+
+  same-asked : (s : State) (side : Party) (message : List ℕ) (room : ℕ) → step-questions t s side message room ≡ step-questions u s side message room
+  unfolding step-questions of-state
+  same-asked s side message room = rw (same-sound t u a (s .position), same-sort t u a (s .position), same-edition)
+
+  same-said : (i : ℕ) (v : Said) → judge-said (table-rules (view t)) i v ≡ judge-said (table-rules (view u)) i v
+  unfolding judge-said
+  same-said i v = rw (same-sort t u a i, same-judge i (v .message))
 
   same-step : (s : State) (side : Party) (message out : List ℕ) → stepping t s side message out ≡ stepping u s side message out
-  unfolding stepping step-questions of-state
+  unfolding stepping
   same-step s side message out =
-      rw (same-sound t u h (s .position), same-sort t u h (s .position), same-judge (s .position) (read message))
+      rw (same-asked s side message (length out), same-said (s .position) (record { side = side; message = read message }))
 
   same-turn : (s : State) → awaited t s ≡ awaited u s
   unfolding awaited of-state
-  same-turn s = rw (same-sound t u h (s .position), same-sort t u h (s .position))
+  same-turn s = rw (same-sound t u a (s .position), same-sort t u a (s .position))
 
   same-event : (s : State) (m : Sent) → event t s m ≡ event u s m
   unfolding event
@@ -90,7 +106,7 @@ module _ (t u : Words) (h : SharesAside t u) where
   unfolding batching batch-questions
   same-batch s l =
       rw (
-        same-sound t u h (s .position),
+        same-sound t u a (s .position),
         same-turns (l .device) (l .host) (suc (length (l .device) + length (l .host))) (begun s (l .to-device) (l .to-host) none),
       )
 
@@ -119,8 +135,8 @@ module _ (t u : Words) (h : SharesAside t u) where
   same-nine : (c : Counts) → counts-sound t c ≡ counts-sound u c
   unfolding counts-sound adds-up sort
   same-nine c =
-      ap₂ (λ a b. nine-by c a b (states-of t) (branches-of t)) (same-sorts t u h) (same-branches t u h)
-      ∙ ap₂ (nine-by c (view u .sorts) (view u .branches)) (same-states t u h) (same-count t u h)
+      ap₂ (λ a b. nine-by c a b (states-of t) (branches-of t)) (same-sorts t u a) (same-branches t u a)
+      ∙ ap₂ (nine-by c (view u .sorts) (view u .branches)) (same-states t u a) (same-count t u a)
 
 pub shares-unseen : SharesUnseen
 unfolding conversation

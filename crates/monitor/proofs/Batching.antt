@@ -21,7 +21,8 @@ use Rattle.table.specs.declared.Party.the-variants.{Device, Host}
 use Rattle.table.proofs.Lists.{both, join, never}
 use Rattle.table.proofs.Facts.{sound-facts}
 use Rattle.message.specs.Message.{read, whole, legal-texts}
-use Rattle.message.specs.Judge.{allowed, allows, judge}
+use Rattle.message.specs.Judge.{judge}
+use Rattle.message.specs.Rules.{table-rules}
 use Rattle.message.specs.Make.{opening}
 use Rattle.monitor.specs.declared.State.{State}
 use Rattle.monitor.specs.Step.{is-running, of-state, step-questions, Told, refused, blamed, forwarded, Outcome, refusing, blaming}
@@ -32,11 +33,11 @@ use Rattle.monitor.specs.Batch.{Lane, used-by, written-by, Taken, taken,
 use Rattle.monitor.specs.Batch.{go-on, turns, batch-questions, begun, batching}
 use Rattle.monitor.specs.Conversation.{is-forwarded}
 use Rattle.monitor.specs.Turns.{Heard, LaneIn, Within, is-last-forwarded}
-use Rattle.monitor.proofs.Asking.{zero-or, entered, at-end, at-choice, opened, Ready, ready, asked-then, target-of, refused-step}
-use Rattle.monitor.proofs.Asking.{Way, refuses, forwards, blames, way}
+use Rattle.monitor.proofs.Asking.{zero-or, entered, at-end, at-choice, opened, Ready, ready, asked-then}
+use Rattle.monitor.proofs.Asking.{said-in-turn, target-of, said-here, refused-step, Way, refuses, forwards, blames, way}
 use Rattle.monitor.proofs.Waiting.{refused-turn, device-awaited, host-awaited, first-within, first-cut, first-framed}
-use Rattle.monitor.proofs.Waiting.{open-here, framed-heard}
-use Rattle.monitor.proofs.Demand.{agree, allows-state}
+use Rattle.monitor.proofs.Waiting.{open-here, speaks-here, framed-heard}
+use Rattle.monitor.proofs.Demand.{said-leads, next-state}
 
 -- ---- a sound table and one of its states
 
@@ -84,8 +85,14 @@ module _ (t : Words) (s : State) (side : Party) (message out : List ℕ) (d : He
   pub due-sound : sound-of t ≡ true
   due-sound = opened t s due-open .sound
 
-  due-ready : first-no (step-questions t s side message (length out)) ≡ 0 → Ready (sort (view t) (s .position)) side message (length out)
-  due-ready e = ready (sort (view t) (s .position)) side message (length out) (sym (asked-then t s side message (length out) due-open) ∙ e)
+  -- it is judged against the branches
+  pub due-judged : said-here t s side message out ≡ judge (view t) (s .position) (read message)
+  due-judged = said-in-turn (table-rules (view t)) (s .position) _ (speaks-here t s side (d .turn))
+
+  due-ready : first-no (step-questions t s side message (length out)) ≡ 0
+      → Ready (view t .edition) (sort (view t) (s .position)) side message (length out)
+  due-ready e =
+      ready (view t .edition) (sort (view t) (s .position)) side message (length out) (sym (asked-then t s side message (length out) due-open) ∙ e)
 
   module _ (b : legal-texts message ≡ true) (h : length message ≤ length out) where
     pub due-yes : first-no (step-questions t s side message (length out)) ≡ 0
@@ -108,11 +115,8 @@ module _ (t : Words) (s : State) (side : Party) (message out : List ℕ) (d : He
       record {
         fits = f;
         long = length-append message (drop (length message) out) ∙ omega (arith, length-drop (length message) out, f);
-        below = allows-state t (sound-facts t due-sound) (s .position) (read message) j (leads-to j h);
+        below = next-state t (sound-facts t due-sound) (s .position) _ j (said-leads t due-sound (s .position) _ ∙ ap target-of h);
       }
-    where
-      leads-to : (j : ℕ) → judge (view t) (s .position) (read message) ≡ allowed j → allows (view t) (s .position) (read message) ≡ some j
-      leads-to j h = agree t due-sound (s .position) (read message) ∙ ap target-of h
   step-in-by x l (blames e r f h) = record { fits = omega arith; long = refl; below = l }
 
   pub step-in : StepIn (stepping t s side message out)

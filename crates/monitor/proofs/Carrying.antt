@@ -14,7 +14,7 @@ use Rattle.table.specs.Table.{legal-label, legal-field, within-kind, origin, is
 use Rattle.table.specs.View.{branches-of, owner-at, count-at, word-at, kind-at, low-at, high-at, sort-of, view, sound-of}
 use Rattle.table.specs.Scans.{legal-at}
 use Rattle.table.specs.Lists.{first-no}
-use Rattle.table.proofs.Lists.{both, join}
+use Rattle.table.proofs.Lists.{both, join, or-left}
 use Rattle.table.proofs.Facts.{Facts, sound-facts}
 use Rattle.message.specs.Message.{number-at, count-of, announced, read, legal-value, front, refusal, has-label}
 use Rattle.message.specs.Judge.{selected, judge}
@@ -125,7 +125,8 @@ module _ (t : List ℕ) (sound : sound-of t ≡ true) (bytes : List ℕ) (nine :
 pub straight-alone : (t : List ℕ) (i : ℕ) (message : List ℕ) (room n r : ℕ) → Leading t i message room n r → n ≡ length message
     → (sort : ℕ) (side : Party) → is-party side (speaker (sort-of sort)) ≡ true → Straight t i sort side message room r
 straight-alone t i message room n r x e sort side turn = record {
-  asked = all-well (sort-of sort) side message room turn formed (omega (arith, x .holds));
+  turn = turn;
+  asked = λ edition. all-well edition (sort-of sort) side message room (or-left (eqb edition 2) turn) formed (omega (arith, x .holds));
   by-branch = subst (λ m. ByBranch t i m r) all-taken (x .by-branch);
 }
   where

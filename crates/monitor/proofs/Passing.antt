@@ -21,10 +21,10 @@ use Rattle.monitor.specs.Due.{of-side, awaited, first-length}
 use Rattle.monitor.specs.Batch.{Lane, used-by, written-by, taken, taking}
 use Rattle.monitor.specs.Counts.{first-left}
 use Rattle.monitor.specs.Leaves.{moved-to, Leading}
-use Rattle.monitor.specs.Turns.{LaneIn, PassedOn}
+use Rattle.monitor.specs.Turns.{Heard, LaneIn, PassedOn}
 use Rattle.monitor.proofs.Asking.{judged-as}
 use Rattle.monitor.proofs.Waiting.{first-within}
-use Rattle.monitor.proofs.Batching.{takes-one, due-yes}
+use Rattle.monitor.proofs.Batching.{takes-one, due-yes, due-judged}
 
 -- ---- what is left, as the program has it
 
@@ -66,10 +66,14 @@ module _ (t : Words) (position : ℕ) (bytes : List ℕ) (l : Lane) (n r : ℕ)
   goes-straight s side e a =
       takes-one t s side bytes l some-first
       ∙ ap (λ k. taken k (stepping t s side (take k rest) room) l) (x .first)
-      ∙ ap (λ y. taken n y l) (judged-as t s side (take n rest) room (allowed (target-at t r)) heard (ap (λ p. judge (view t) p (read (take n rest))) e ∙ x .by-branch .judged))
+      ∙ ap (λ y. taken n y l) (judged-as t s side (take n rest) room (allowed (target-at t r)) heard
+      (due-judged t s side (take n rest) room now-due ∙ ap (λ p. judge (view t) p (read (take n rest))) e ∙ x .by-branch .judged))
     where
+      now-due : Heard t s side (take n rest)
+      now-due = record { turn = a; framed = formed-framed (take n rest) (x .formed) }
+
       heard : first-no (step-questions t s side (take n rest) (length room)) ≡ 0
-      heard = due-yes t s side (take n rest) room (record { turn = a; framed = formed-framed (take n rest) (x .formed) }) (formed-legal (take n rest) (x .formed)) (omega (arith, first-size, x .holds))
+      heard = due-yes t s side (take n rest) room now-due (formed-legal (take n rest) (x .formed)) (omega (arith, first-size, x .holds))
 
   pub goes-by : (r < branches-of t) × (selected (view t) position (read (first-left bytes l)) ≡ some r)
   unfolding first-left

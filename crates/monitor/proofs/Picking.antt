@@ -12,14 +12,15 @@ use Rattle.table.specs.View.{Words, view, sound-of}
 use Rattle.table.proofs.Lists.{never}
 use Rattle.message.specs.Message.{read}
 use Rattle.message.specs.Judge.{allows, selected}
+use Rattle.message.specs.Rules.{table-rules}
 use Rattle.message.proofs.Judging.{none-some}
 use Rattle.message.proofs.Selected.{selected-exactly}
 use Rattle.monitor.specs.declared.State.{State}
 use Rattle.monitor.specs.Step.{Outcome, refusing, blaming, stepping}
-use Rattle.monitor.specs.Conversation.{Sent, Event, event, played, conversation, is-forwarded}
+use Rattle.monitor.specs.Conversation.{Sent, Event, event, played, conversation, said-by, is-forwarded}
 use Rattle.monitor.specs.Counting.{picked, picks, forwarded-at, PicksAll}
 use Rattle.monitor.proofs.Asking.{target-of, Way, refuses, forwards, blames, way}
-use Rattle.monitor.proofs.Demand.{agree, cons-eq, nil-cons}
+use Rattle.monitor.proofs.Demand.{next-allows, said-leads, cons-eq, nil-cons}
 
 module _ (t : Words) (sound : sound-of t ≡ true) where
   abbrev Chooses : Event → Type 0
@@ -38,7 +39,8 @@ module _ (t : Words) (sound : sound-of t ≡ true) where
           → (b : ℕ) × (selected (view t) (s .position) (read (m .bytes)) ≡ some b)
       by x (refuses q e n) h = never h refl
       by x (forwards e j h) f =
-          some-one (selected (view t) (s .position) (read (m .bytes))) refl j (agree t sound (s .position) (read (m .bytes)) ∙ ap target-of h)
+          some-one (selected (view t) (s .position) (read (m .bytes))) refl j
+          (next-allows (table-rules (view t)) (s .position) (said-by m) j (said-leads t sound (s .position) (said-by m) ∙ ap target-of h))
       by x (blames e r f h) g = never g refl
 
   module _ (i : ℕ) where

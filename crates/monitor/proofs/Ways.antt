@@ -7,10 +7,13 @@ use mathlib.Core.Option.{some}
 use Prim.Native.Nat.{ℕ, _≤_}
 use lib.ListN.{length}
 use Rattle.table.specs.Lists.{first-no}
-use Rattle.table.specs.View.{Words, target-at, view, sound-of}
+use Rattle.table.specs.Table.{speaker, is-party}
+use Rattle.table.specs.View.{Words, sort-at, target-at, edition-of, view, sound-of}
+use Rattle.table.proofs.Facts.{sort-of-is}
 use Rattle.table.specs.declared.Party.{Party}
-use Rattle.message.specs.Message.{Message, read}
-use Rattle.message.specs.Judge.{selected, allowed, judge}
+use Rattle.message.specs.Message.{read}
+use Rattle.message.specs.Judge.{allowed}
+use Rattle.message.specs.Rules.{table-rules}
 use Rattle.monitor.specs.declared.State.{State}
 use Rattle.monitor.specs.declared.judge.Judged.{Judged}
 use Rattle.monitor.specs.declared.judge.Judged.the-variants.{Allowed, Forbidden}
@@ -18,8 +21,8 @@ use Rattle.monitor.specs.Step.{of-state, step-questions, Told, refusing,
 use Rattle.monitor.specs.Due.{awaited}
 use Rattle.monitor.specs.Due as Due
 use Rattle.monitor.specs.Counts.{Counts, counts-sound, raised, raised-by, counted, counted-step, counted-turn}
-use Rattle.monitor.specs.Leaves.{judgement, judged-branch, Rising, Settled, ByBranch}
-use Rattle.monitor.proofs.Asking.{nine-by, asked-first, refused-step, judged-as}
+use Rattle.monitor.specs.Leaves.{judgement, judged-branch, Selects, Rising, Settled, Straight}
+use Rattle.monitor.proofs.Asking.{nine-by, opened, asked-first, asked-message, said-in-turn, said-here, refused-step, judged-as}
 use Rattle.monitor.proofs.Waiting.{refused-turn}
 use Rattle.monitor.proofs.Raising.{chosen-follows, raised-at-is}
 
@@ -42,22 +45,22 @@ module _ (t : Words) (s : State) (c : Counts) where
 
 -- the branch in it is one of the state's
 pub settles : (t : Words) (j : Judged) (s : State) (c : Counts) (n room : ℕ) → sound-of t ≡ true → Rising t c → 8 ≤ n → n ≤ room
-    → (m : Message) → judged-branch j ≡ selected (view t) (s .position) m → Settled t j s c n room
-settles t j s c n room sound rising eight holds m e =
+    → (message : List ℕ) → Selects t (s .position) message j → Settled t j s c n room
+settles t j s c n room sound rising eight holds message e =
     record {
       eight = eight;
       holds = holds;
-      follows = λ b h. chosen-follows t s c sound rising m b (sym e ∙ h);
+      follows = λ b h. chosen-follows t s c sound rising (read message) b (e b h);
     }
 
 module _ (t : Words) (s : State) (c : Counts) (side : Party) (message out : List ℕ) where
   -- what it raises is what the verdict counts
-  pub settled-counted : (j : Judged) → judged-branch j ≡ selected (view t) (s .position) (read message)
+  pub settled-counted : (j : Judged) → Selects t (s .position) message j
       → (v : Told) → v ≡ judging (judgement t j) s side message out .verdict
       → raised-by c (s .position) (judged-branch j) ≡ counted t s message v c
   unfolding judged-branch judgement judging forwarding blaming counted raised-by
   settled-counted (Allowed b) p v e =
-      sym (raised-at-is t (s .position) message c (some b) (sym p)) ∙ ap (λ v. counted t s message v c) (sym e)
+      sym (raised-at-is t (s .position) message c (some b) (p b refl)) ∙ ap (λ v. counted t s message v c) (sym e)
   settled-counted (Forbidden why) p v e = ap (λ v. counted t s message v c) (sym e)
 
   -- ---- a step
@@ -75,16 +78,21 @@ module _ (t : Words) (s : State) (c : Counts) (side : Party) (message out : List
     unfolding counted-step refusing counted
     way-refused p h n = rw (e, refused-step t s side message out p h n)
 
-    module _ (asked : first-no (step-questions t s side message (length out)) ≡ 0) where
-      pub way-forwards : (b : ℕ) → ByBranch t (s .position) message b
-          → (forwarding (target-at t b) message s out, raised c (s .position) b) ≡ counted-step t s c side message out
-      unfolding counted-step judging forwarding counted raised-by
-      way-forwards b x =
-          rw (e, judged-as t s side message out (allowed (target-at t b)) asked (x .judged), raised-at-is t (s .position) message c (some b) (x .selected-one))
+    pub way-forwards : first-no (of-state t s) ≡ 0 → (b : ℕ) → Straight t (s .position) (sort-at t (s .position)) side message (length out) b
+        → (forwarding (target-at t b) message s out, raised c (s .position) b) ≡ counted-step t s c side message out
+    unfolding counted-step judging forwarding counted raised-by
+    way-forwards o b x =
+        let turn = ap (λ k. is-party side (speaker k)) (sort-of-is t (s .position) (opened t s o .below)) ∙ x .turn in
+        rw (
+          e,
+          judged-as t s side message out (allowed (target-at t b)) (asked-message t s side message (length out) o ∙ x .asked (edition-of t))
+              (said-in-turn (table-rules (view t)) (s .position) _ turn ∙ x .by-branch .judged),
+          raised-at-is t (s .position) message c (some b) (x .by-branch .selected-one),
+        )
 
-      pub way-settled : (j : Judged) → judgement t j ≡ judge (view t) (s .position) (read message)
-          → judged-branch j ≡ selected (view t) (s .position) (read message)
-          → (judging (judgement t j) s side message out, raised-by c (s .position) (judged-branch j)) ≡ counted-step t s c side message out
-      unfolding counted-step
-      way-settled j h k =
-          rw (e, judged-as t s side message out (judgement t j) asked (sym h), settled-counted j k (judging (judgement t j) s side message out .verdict) refl)
+    pub way-settled : first-no (step-questions t s side message (length out)) ≡ 0 → (j : Judged) → judgement t j ≡ said-here t s side message out
+        → Selects t (s .position) message j
+        → (judging (judgement t j) s side message out, raised-by c (s .position) (judged-branch j)) ≡ counted-step t s c side message out
+    unfolding counted-step
+    way-settled asked j h k =
+        rw (e, judged-as t s side message out (judgement t j) asked (sym h), settled-counted j k (judging (judgement t j) s side message out .verdict) refl)

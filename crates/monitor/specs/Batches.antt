@@ -1,5 +1,5 @@
 -- What is proved of batches (document 02, request 2): they are single calls, they may be cut in two, no byte is lost, and demand 2 holds
--- of the messages that they take.
+-- of the messages that they take, none of which is early.
 -- Assumes nothing.
 use mathlib.Core.Path.{_≡_}
 use mathlib.Core.Bool.{true, not, _&&_, cond}
@@ -15,7 +15,7 @@ use Rattle.table.specs.declared.Party.the-variants.{Device, Host}
 use Rattle.message.specs.Message.{refusal, well-formed}
 use Rattle.message.specs.Rules.{Rules, table-rules}
 use Rattle.monitor.specs.declared.State.{State}
-use Rattle.monitor.specs.Step.{fresh, is-running, Told, refused, forwarded}
+use Rattle.monitor.specs.Step.{fresh, is-running, Told, refused, blamed, forwarded}
 use Rattle.monitor.specs.Due.{of-side, awaited, due}
 use Rattle.monitor.specs.Conversation.{Event, event, conversation, is-refused, is-forwarded, Watched}
 use Rattle.monitor.specs.Batch.{Lane, Batch, latest, batch-questions, begun, batching}
@@ -206,3 +206,23 @@ pub record WatchedBatches {A : Type 0} (rules : Rules A) (t : Words) (calls : Li
 
 abbrev pub BatchesWatched : Type 0
 BatchesWatched = (t : Words) → sound-of t ≡ true → (calls : List Left) → WatchedBatches (table-rules (view t)) t calls
+
+-- ---- none of them is early
+
+-- it is its side's turn: 12 does not refuse it, and nobody is blamed with reason 4
+pub record InTurn (t : Words) (e : Event) : Type 0 where
+  pub turn : awaited t (e .met) ≡ of-side (e .sent .side)
+  pub not-twelve : e .done .verdict ≡ refused 12 → ⊥
+  pub not-early : (side : Party) (f : Option ℕ) → e .done .verdict ≡ blamed side 4 f → ⊥
+
+-- so it is, under either edition, with a step on what `due` hands out
+abbrev pub DueInTurn : Type 0
+DueInTurn =
+    (t : Words) (s : State) (device host : RefT (List ℕ)) (buffer : List ℕ) → (due t s device host .1 ≡ [] → ⊥)
+    → (side : Party) × InTurn t (event t s (record { side = side; bytes = due t s device host .1; buffer = buffer }))
+
+-- and with every step of every batch, whatever waits and is lent at each call
+abbrev pub BatchesInTurn : Type 0
+BatchesInTurn =
+    (t : Words) (s : State) (calls : List Left) (batches : List Batch) (events : List Event) → Batches t s calls batches events
+    → (earlier : List Event) (e : Event) (later : List Event) → events ≡ earlier ++ (e ∷ later) → InTurn t e

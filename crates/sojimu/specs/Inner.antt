@@ -2,20 +2,18 @@
 -- Assumes nothing.
 use mathlib.Core.Path.{_≡_}
 use mathlib.Core.List.{List}
-use mathlib.Core.Option.{Option, none, some}
+use mathlib.Core.Option.{Option}
 use Prim.Native.Nat.{ℕ}
 use Rattle.table.specs.View.{Words}
 use Rattle.message.specs.Make.{making}
-use Rattle.monitor.specs.Due.{Awaited, refused, of-side}
-use Rattle.table.specs.declared.Party.{Party}
-use Rattle.table.specs.declared.Party.the-variants.{Device, Host}
+use Rattle.monitor.specs.Step.{Told, refused}
+use Rattle.monitor.specs.Due.{Awaited, of-side}
+use Rattle.monitor.specs.Due as Due
 
--- the side in whose name a step is taken: where no side speaks, one whose turn it is not
-unfoldable pub stand-in : Option Party → Awaited → Party
-stand-in (some side) turn = side
-stand-in none (of-side Device) = Host
-stand-in none (of-side Host) = Device
-stand-in none (refused q) = Device
+-- the answer to what no side says, by whose turn it is
+unfoldable pub unspoken : Awaited → Told
+unspoken (Due.refused q) = refused q
+unspoken (of-side side) = refused 12
 
 -- the same message or refusal comes of both numbers of a branch, and of both fields that are named
 abbrev pub SameBranch : ℕ → ℕ → Type 0

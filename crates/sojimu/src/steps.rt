@@ -1,12 +1,14 @@
 // The monitor: one step over a lent state, whose turn it is, and the due part.
 ghost use mathlib.Core.Path.{_≡_};
+ghost use mathlib.Core.Option.{some};
+ghost use Prim.Native.Nat.{_≤_};
 ghost use Rattle.monitor.specs.declared.Verdict.the-variants.{Blamed};
 ghost use Rattle.monitor.specs.Step.{told};
 ghost use Rattle.monitor.specs.Due.{turn-answer, first-length};
 ghost use Rattle.monitor.specs.Counts.{starting, counted-turn};
 ghost use Rattle.sojimu.specs.Codes.{code-side, party-code, turn-codes, standing-code, standing-of, state-of, state-in, state-bytes, started-codes, verdict-codes};
 ghost use Rattle.sojimu.specs.Calls.{bytes-after, step-codes, due-codes};
-ghost use Rattle.sojimu.specs.Inner.{stand-in};
+ghost use Rattle.sojimu.specs.Inner.{unspoken};
 use monitor::Counts;
 use monitor::Reason;
 use monitor::Standing;
@@ -87,31 +89,35 @@ pub extern "C" fn sojimu_raw_step(
         ≡ step-codes (now (table .entry)) (now (state .entry)) (now (counts .entry)) side (now (message .entry)) (now (out .entry)) ⌝ }
 {
     let s = state_of(state[0], state[1]);
-    let speaker = speaker_of(table, s, counts, side);
+    if 1 < side {
+        let refusal = unspoken(table, s, counts);
+        return verdict_codes(refusal);
+    }
+    let speaker = party_of(side);
     let r = monitor::step(table, s, counts, speaker, message, out);
     keep(state, r);
     let verdict = r.verdict;
     verdict_codes(verdict)
 }
 
-// The side in whose name a step is taken: for a code that is no side's, one whose turn it is not.
-fn speaker_of(table: &Table, s: monitor::State, counts: &Counts, side: u32) -> Party
-    ensures { λ r. ⌜ r ≡ stand-in (code-side side) (counted-turn (now (table .entry)) s (now (counts .entry))) ⌝ }
+// The refusal of what no side says: by 9, 10 or 11, else by 12. It is never judged, and nobody is blamed for it.
+fn unspoken(table: &Table, s: monitor::State, counts: &Counts) -> monitor::Verdict
+    ensures { λ r. ⌜ told r ≡ unspoken (counted-turn (now (table .entry)) s (now (counts .entry))) ⌝ }
 {
-    if side == 0 {
-        return Party::Device;
-    }
-    if side == 1 {
-        return Party::Host;
-    }
     let turn = monitor::whose_turn(table, s, counts);
     match turn {
-        monitor::Turn::Refused(_) => Party::Device,
-        monitor::Turn::Of(awaited) => match awaited {
-            Party::Device => Party::Host,
-            Party::Host => Party::Device,
-        },
+        monitor::Turn::Refused(question) => monitor::Verdict::Refused(question),
+        monitor::Turn::Of(_) => monitor::Verdict::Refused(12),
     }
+}
+
+fn party_of(code: u32) -> Party
+    ensures { λ r. ⌜ (code ≤ 1 → code-side code ≡ some r) ⌝ }
+{
+    if code == 0 {
+        return Party::Device;
+    }
+    Party::Host
 }
 
 // A refusal leaves the two bytes as they were.
@@ -265,6 +271,7 @@ fn blame_codes(party: Party, reason: Reason) -> Verdict
         Reason::NoLabel => blame(code, 1, 0),
         Reason::OtherKinds => blame(code, 2, 0),
         Reason::OutOfRange(field) => blame(code, 3, field),
+        Reason::Early => blame(code, 4, 0),
     }
 }
 

@@ -13,11 +13,12 @@ use Rattle.table.specs.View.{Words, view}
 use Rattle.table.specs.declared.Party.{Party}
 use Rattle.table.specs.declared.Party.the-variants.{Device, Host}
 use Rattle.table.proofs.Lists.{never}
+use Rattle.table.proofs.Sorts.{same-sort-eq}
 use Rattle.message.specs.Message.{read, well-formed}
 use Rattle.message.specs.Rules.{Rules, table-rules, Said, turn, next, leads, led}
 use Rattle.message.proofs.Judging.{none-some, some-eq}
 use Rattle.monitor.specs.Step.{Told, refused, blamed, forwarded, Outcome, outcome}
-use Rattle.monitor.proofs.Demand.{or-else, blamed-append, blamed-for-good, forwarded-append, leads-more, next-in-turn, demand-two, replies-kept}
+use Rattle.monitor.proofs.Demand.{or-else, blamed-append, blamed-for-good, forwarded-append, leads-more, demand-two, replies-kept}
 use Rattle.fit.proofs.Reaching.{moves-append}
 use Rattle.monitor.specs.Conversation.{Sent, Event, conversation, said-by, is-forwarded, forwarded-ones, blamed-else, blamed-first, Judgeable, Met, WatchedTable, Reply}
 use Rattle.fit.specs.Machine.{Standing, running, device-blamed, jammed, Machine, Move, moves, Effect, forward, halt, from-device, from-host, while-running, arrived, fresh-machine, by-side, effect, does, after, move, play, run, bad, Safe}
@@ -61,23 +62,11 @@ device-sends sends e = refl
 device-sends ends e = never e refl
 device-sends receives e = never e refl
 
-host-receives : (s : Sort) → speaker s ≡ some Host → same-sort s receives ≡ true
-unfolding speaker same-sort sort-code
+host-receives : (s : Sort) → is-party Host (speaker s) ≡ true → same-sort s receives ≡ true
+unfolding speaker is-party same-sort sort-code
 host-receives receives e = refl
-host-receives ends e = none-some e
-host-receives sends e = let z : Device ≡ Host = some-eq e in let y : _≡_ {A = ℕ} 0 1 = cc in absurd (omega arith)
-
-same-turn : (a b : Sort) (side : Party) → same-sort a b ≡ true → speaker b ≡ some side → speaker a ≡ some side
-unfolding speaker same-sort sort-code
-same-turn ends ends side e f = f
-same-turn sends sends side e f = f
-same-turn receives receives side e f = f
-same-turn ends sends side e f = never e refl
-same-turn ends receives side e f = never e refl
-same-turn sends ends side e f = never e refl
-same-turn sends receives side e f = never e refl
-same-turn receives ends side e f = never e refl
-same-turn receives sends side e f = never e refl
+host-receives ends e = never e refl
+host-receives sends e = never e refl
 
 next-parts : {A : Type 0} (r : Rules A) (a b : A) (v : Said) → next r a v ≡ some b → (is-party (v .side) (turn r a) ≡ true) × (r .allows a (v .message) ≡ some b)
 unfolding next
@@ -111,6 +100,10 @@ module _ (D : Type 0) (d : Rules D) (p : Words) (safe : Safe d (table-rules (vie
       go : (b : Bool) → same-sort (d .sort x) (R .sort j) ≡ b → bad (cond b running jammed) ≡ false → same-sort (d .sort x) (R .sort j) ≡ true
       go true q e = q
       go false q e = never refl e
+
+  -- and it is the same side's turn
+  turns-alike : (x : D) (j : ℕ) → Led x j → (side : Party) → is-party side (turn d x) ≡ is-party side (turn R j)
+  turns-alike x j l side = ap (λ s. is-party side (speaker s)) (same-sort-eq (d .sort x) (R .sort j) (alike x j l))
 
   module _ (x : D) (j : ℕ) (l : Led x j) (m : Sent) (formed : well-formed (m .bytes) ≡ true) where
     one-more : (e : Effect D ℕ) → effect d R x j (as-move m) ≡ e → run d R (l .by ++ (as-move m ∷ [])) ≡ after d R (arrived d R x j) e
@@ -148,26 +141,38 @@ module _ (D : Type 0) (d : Rules D) (p : Words) (safe : Safe d (table-rules (vie
       its : (is-party Device (turn d x) ≡ true) × (d .allows x (read (m .bytes)) ≡ some y)
       its = subst (λ (side : Party). (is-party side (turn d x) ≡ true) × (d .allows x (read (m .bytes)) ≡ some y)) s (next-parts d x y (said-by m) h)
 
-      device-on : (k : ℕ) → R .allows j (read (m .bytes)) ≡ some k → Led y k
+      device-on : (k : ℕ) → next R j (said-by m) ≡ some k → Led y k
       unfolding from-device
-      device-on k e = led-on y k (device-effect (some y) (some k) s (device-sends (d .sort x) (its .0)) (its .1) e)
+      device-on k e =
+          led-on y k (device-effect (some y) (some k) s (device-sends (d .sort x) (its .0)) (its .1) (next-parts R j k (said-by m) e .1))
 
-      device-spared : R .allows j (read (m .bytes)) ≡ none → ⊥
-      unfolding from-device bad
+      -- and it is the device's turn by the protocol, too
+      device-spared : next R j (said-by m) ≡ none → ⊥
+      unfolding from-device bad next
       device-spared e =
-          never refl (stops-well device-blamed (device-effect (some y) none s (device-sends (d .sort x) (its .0)) (its .1) e))
+          let turn-there = sym (turns-alike x j l (m .side)) ∙ next-parts d x y (said-by m) h .0 in
+          never refl (stops-well device-blamed (device-effect (some y) none s (device-sends (d .sort x) (its .0)) (its .1) (rw turn-there at e)))
 
     -- a message of the host's that the protocol allows is one that the description takes
-    host-on : m .side ≡ Host → turn R j ≡ some Host → (k : ℕ) → R .allows j (read (m .bytes)) ≡ some k → (y : D) × (next d x (said-by m) ≡ some y) × Led y k
-    unfolding from-host bad
-    host-on s t k e = go (d .allows x (read (m .bytes))) refl
+    host-on : m .side ≡ Host → (k : ℕ) → next R j (said-by m) ≡ some k → (y : D) × (next d x (said-by m) ≡ some y) × Led y k
+    unfolding from-host bad next
+    host-on s k h = go (d .allows x (read (m .bytes))) refl
       where
+        turn-there : is-party (m .side) (turn R j) ≡ true
+        turn-there = next-parts R j k (said-by m) h .0
+
+        e : R .allows j (read (m .bytes)) ≡ some k
+        e = next-parts R j k (said-by m) h .1
+
+        t : same-sort (R .sort j) receives ≡ true
+        t = host-receives (R .sort j) (subst (λ (side : Party). is-party side (turn R j) ≡ true) s turn-there)
+
         go : (o : Option D) → d .allows x (read (m .bytes)) ≡ o → (y : D) × (next d x (said-by m) ≡ some y) × Led y k
-        go none f = never refl (stops-well jammed (host-effect none (some k) s (host-receives (R .sort j) t) f e))
+        go none f = never refl (stops-well jammed (host-effect none (some k) s t f e))
         go (some y) f = (
           y,
-          next-in-turn d x (said-by m) (same-turn (d .sort x) (R .sort j) (m .side) (alike x j l) (t ∙ ap some (sym s))) ∙ f,
-          led-on y k (host-effect (some y) (some k) s (host-receives (R .sort j) t) f e),
+          rw (turns-alike x j l (m .side) ∙ turn-there, f),
+          led-on y k (host-effect (some y) (some k) s t f e),
         )
 
   -- ---- what holds after some events
@@ -226,7 +231,7 @@ module _ (D : Type 0) (d : Rules D) (p : Words) (safe : Safe d (table-rules (vie
           beside = λ z. none-some (sym z ∙ c);
         }
       where
-        x : Judgeable R past (met .place) (e .sent) × (R .allows (met .place) (read (e .sent .bytes)) ≡ none) × (side ≡ e .sent .side)
+        x : Judgeable R past (met .place) (e .sent) × (next R (met .place) (said-by (e .sent)) ≡ none) × (side ≡ e .sent .side)
         x = let y = met .handled .blames side r g .0 h in (y .0, y .1, y .2)
 
         c : blamed-first (past ++ (e ∷ [])) ≡ some side
@@ -251,7 +256,7 @@ module _ (D : Type 0) (d : Rules D) (p : Words) (safe : Safe d (table-rules (vie
         k : ℕ
         k = met .handled .forwards .0 h .1 .0
 
-        allowed-there : R .allows (met .place) (read (e .sent .bytes)) ≡ some k
+        allowed-there : next R (met .place) v ≡ some k
         allowed-there = met .handled .forwards .0 h .1 .1
 
         more : forwarded-ones (past ++ (e ∷ [])) ≡ forwarded-ones past ++ (v ∷ [])
@@ -266,7 +271,7 @@ module _ (D : Type 0) (d : Rules D) (p : Words) (safe : Safe d (table-rules (vie
               here = y;
               followed = ap (led d) more ∙ leads-more d (d .start) (forwarded-ones past) (f .here) v y (f .followed) n;
               spared = λ z. none-some (sym c ∙ z);
-              beside = λ z. (k, ap (led R) more ∙ leads-more R 0 (forwarded-ones past) (met .place) v k (met .there) (next-in-turn R (met .place) v (j .in-turn) ∙ allowed-there), l);
+              beside = λ z. (k, ap (led R) more ∙ leads-more R 0 (forwarded-ones past) (met .place) v k (met .there) allowed-there, l);
             }
 
         go : (side : Party) → e .sent .side ≡ side → Following (past ++ (e ∷ []))
@@ -274,7 +279,7 @@ module _ (D : Type 0) (d : Rules D) (p : Words) (safe : Safe d (table-rules (vie
             let n = keeps s j in
             on (n .0) (n .1) (device-on (f .here) (met .place) (beside-it j) (e .sent) (j .formed) s (n .0) (n .1) k allowed-there)
         go Host s =
-            let n = host-on (f .here) (met .place) (beside-it j) (e .sent) (j .formed) s (j .in-turn ∙ ap some s) k allowed-there in
+            let n = host-on (f .here) (met .place) (beside-it j) (e .sent) (j .formed) s k allowed-there in
             on (n .0) (n .1) (n .2)
 
     one-further : Following (past ++ (e ∷ []))

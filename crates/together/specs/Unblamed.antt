@@ -1,5 +1,5 @@
--- A device that fits and keeps to its description is never blamed, over whole conversations of the monitor's steps: whatever the host
--- says, and whatever comes early, damaged or without room.
+-- A device that fits and keeps to its description is never blamed, over whole conversations of the monitor's steps and under either edition:
+-- whatever the host says, early or in turn, and whatever comes damaged or without room.
 -- Assumes nothing.
 use mathlib.Core.Path.{_≡_}
 use mathlib.Core.Bool.{true}
@@ -14,8 +14,8 @@ use Rattle.monitor.specs.Conversation.{Sent, Event, conversation, said-by, forw
 use Rattle.fit.specs.Machine.{Safe}
 
 module _ {D : Type 0} (d : Rules D) (p : Words) where
-  -- The device keeps to its description: each time it is its turn, what it sends well formed and with room is a message that the
-  -- description has there. The description's place is followed over the forwarded messages
+  -- The device keeps to its description: each time it is listened to, which under edition 2 is out of turn, too, what it sends well formed
+  -- and with room is a message that the description has there. The description's place is followed over the forwarded messages
   abbrev pub Keeps : List Sent → Type 0
   Keeps sent =
       (earlier : List Event) (e : Event) (later : List Event) → conversation p sent ≡ earlier ++ (e ∷ later)

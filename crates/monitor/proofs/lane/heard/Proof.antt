@@ -9,7 +9,7 @@ use Rattle.message.proofs.Reading.{whole-parts}
 use Rattle.monitor.specs.Step.{told, Outcome, refusing, outcome}
 use Rattle.monitor.specs.Counts.{counted}
 use Rattle.monitor.proofs.Asking.{judged-as}
-use Rattle.monitor.proofs.Batching.{due-broken, due-full, due-sound, due-yes, due-whole}
+use Rattle.monitor.proofs.Batching.{due-broken, due-full, due-sound, due-yes, due-whole, due-judged}
 use Rattle.monitor.proofs.Ways.{settles, settled-counted}
 use Rattle.monitor.proofs.lane.heard.Statement.{statement}
 use Rattle.monitor.proofs.lane.heard.Tie as tie
@@ -43,7 +43,8 @@ settle-requires c κs =
     let out = s .args .out .now in
     let p = s .pre in
     let w = due-whole _ _ _ _ out (p .0) (texts-yes (e .before)) (e .if2 .left) in
-    settles _ _ _ _ _ _ (due-sound _ _ _ _ out (p .0)) (p .1) (omega (arith, whole-parts _ w .nine)) (e .if2 .left) _ (c .before .before .judge .ensures .1)
+    settles _ _ _ _ _ _ (due-sound _ _ _ _ out (p .0)) (p .1) (omega (arith, whole-parts _ w .nine)) (e .if2 .left)
+    _ (λ b h. sym (c .before .before .judge .ensures .1) ∙ h)
 
 returns-3 : tie.Need-returns-3
 unfolding outcome
@@ -52,8 +53,9 @@ returns-3 c =
     let s = e .before .before .before .before .before in
     let x = c .before .before .settle .ensures in
     let j = c .before .before .before .before .before .judge .ensures in (
-      x .0 ∙ sym (judged-as _ _ _ _ _ _ (due-yes _ _ _ _ (s .args .out .now) (s .pre .0) (texts-yes (e .before)) (e .if2 .left)) (sym (j .0))),
-      x .1 ∙ settled-counted _ _ _ _ _ (s .args .out .now) _ (j .1) _ (ap (λ (y : Outcome). y .verdict) (x .0)),
+      x .0 ∙ sym (judged-as _ _ _ _ _ _ (due-yes _ _ _ _ (s .args .out .now) (s .pre .0) (texts-yes (e .before)) (e .if2 .left))
+          (due-judged _ _ _ _ (s .args .out .now) (s .pre .0) ∙ sym (j .0))),
+      x .1 ∙ settled-counted _ _ _ _ _ (s .args .out .now) _ (λ b h. sym (j .1) ∙ h) _ (ap (λ (y : Outcome). y .verdict) (x .0)),
     )
 
 pub heard-spec : {M : Type 1} → statement M

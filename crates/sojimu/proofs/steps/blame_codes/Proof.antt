@@ -31,6 +31,12 @@ returns-3 c =
     rw (c .blame3 .ensures, c .before .before .before .before .party-code .ensures)
     (again (c .before .before .before .before .before .args .party) (c .before .before .reason .given .1))
 
+returns-4 : tie.Need-returns-4
+unfolding told reason outside
+returns-4 c =
+    rw (c .blame4 .ensures, c .before .before .before .party-code .ensures)
+    (again (c .before .before .before .before .args .party) (c .before .enum-told3 .given .1))
+
 pub blame-codes-spec : {M : Type 1} → statement M
 blame-codes-spec =
     tie.close
@@ -42,6 +48,9 @@ blame-codes-spec =
     (λ c κs. search needs)
     (λ c. search needs)
     (λ c κs. search needs)
+    (λ c. search needs)
+    (λ c κs. search needs)
     returns
     returns-2
-    returns-3)
+    returns-3
+    returns-4)
