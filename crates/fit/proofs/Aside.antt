@@ -1,48 +1,68 @@
--- Shares take no part in the fit check: what it says of two tables it says of the same tables with other shares.
+-- Neither shares nor editions take part in the fit check: what it says of two tables it says of the same tables with others.
 -- Assumes nothing.
-use mathlib.Core.Path.{_≡_, refl, sym, ap, ap₂, subst, _∙_}
+use mathlib.Core.Path.{_≡_, refl, sym, ap, ap₂, subst, subst₂, _∙_}
 use mathlib.Core.Bool.{true, _&&_}
 use mathlib.Core.List.{List, [], _∷_}
 use mathlib.Core.Option.{Option, none}
 use Prim.Native.Nat.{ℕ}
 use lib.ListN.{length}
 use Rattle.table.specs.Lists.{first-no}
-use Rattle.table.specs.Table.{Sort, ends, sends, receives, Table, sort, unshared}
-use Rattle.table.specs.View.{Words, view, SharesAside}
-use Rattle.table.proofs.Aside.{same-states}
+use Rattle.table.specs.Table.{Sort, ends, sends, receives, Table, sort, plain-under}
+use Rattle.table.specs.View.{Words, view, EditionAside}
+use Rattle.table.proofs.Aside.{same-states, editions-too}
 use Rattle.message.specs.Judge.{allows, judge}
 use Rattle.message.specs.Make.{branch}
-use Rattle.message.specs.Rules.{table-rules}
-use Rattle.fit.specs.Machine.{Machine, Move, fresh-machine, move, moves, run, bad, all-forwarded, Safe, Fewest}
+use Rattle.message.specs.Rules.{Rules, table-rules}
+use Rattle.fit.specs.Machine.{Machine, Move, arrived, fresh-machine, does, move, moves, run, bad, is-forward, all-forwarded, Safe, Fewest}
 use Rattle.fit.specs.Fit.{both-are, right, Reachable, Fits, Count, owns, spoken, speaks, shown, of-speakers, shown-moves, but-last}
 use Rattle.fit.specs.Fit.{last-count, field-named, Failing}
 use Rattle.fit.specs.Answer.{Answer, refused, fits, fails, fit-questions, Answered}
-use Rattle.fit.specs.Answer.{FitSharesUnseen, SafeSharesUnseen}
+use Rattle.fit.specs.Answer.{FitEditionUnseen, SafeEditionUnseen, FitSharesUnseen, SafeSharesUnseen}
+use Rattle.table.proofs.Lists.{both}
+use Rattle.fit.proofs.Shown.{shown-length}
+use Rattle.fit.proofs.Editions.{all-on, bad-on, forward-move, fewest-back, safe-back}
 
--- a table with other shares
-abbrev with : Table → List ℕ → Table
-with t w = record { sorts = t .sorts; branches = t .branches; shares = w }
+-- a table with other shares, under an edition
+abbrev with : Table → List ℕ → ℕ → Table
+with t w e = record { sorts = t .sorts; branches = t .branches; shares = w; edition = e }
 
-with-view : (t u : Words) → SharesAside t u → with (view t) (view u .shares) ≡ view u
-unfolding unshared
-with-view t u h = ap (λ x. with x (view u .shares)) (h .same)
+with-view : (t u : Words) → EditionAside t u → with (view t) (view u .shares) (view u .edition) ≡ view u
+unfolding plain-under
+with-view t u h = ap (λ x. with x (view u .shares) (view u .edition)) (h .same)
 
-module _ (d p : Table) (w v : List ℕ) where
+-- ---- the machine
+
+reach-on : (d p : Table) (w v : List ℕ) (a b : ℕ) {i j : ℕ} → Reachable d p i j → Reachable (with d w a) (with p v b) i j
+unfolding sort allows judge run fresh-machine arrived
+reach-on d p w v a b x =
+    let D = table-rules d in
+    let P = table-rules p in
+    let y = all-on D P (d .edition) a (p .edition) b (fresh-machine D P) (x .by) (x .forwarded) in
+    record {
+      by = x .by;
+      forwarded = y .0;
+      state = sym (ap (λ m. m .state) (y .1)) ∙ x .state;
+      position = sym (ap (λ m. m .position) (y .1)) ∙ x .position;
+    }
+
+module _ (d p : Table) (w v : List ℕ) (a b : ℕ) where
   abbrev e : Table
-  e = with d w
+  e = with d w a
 
   abbrev q : Table
-  q = with p v
+  q = with p v b
 
-  -- ---- the machine
+  abbrev D : Rules ℕ
+  D = table-rules d
 
-  reach-on : {i j : ℕ} → Reachable d p i j → Reachable e q i j
-  unfolding sort allows judge
-  reach-on x = record { by = x .by; forwarded = x .forwarded; state = x .state; position = x .position }
+  abbrev P : Rules ℕ
+  P = table-rules p
+
+  abbrev fresh : Machine ℕ ℕ
+  fresh = fresh-machine D P
 
   reach-back : {i j : ℕ} → Reachable e q i j → Reachable d p i j
-  unfolding sort allows judge
-  reach-back x = record { by = x .by; forwarded = x .forwarded; state = x .state; position = x .position }
+  reach-back = reach-on e q (d .shares) (p .shares) (d .edition) (p .edition)
 
   fits-on : Fits d p → Fits e q
   unfolding Fits right both-are sort
@@ -52,17 +72,17 @@ module _ (d p : Table) (w v : List ℕ) where
   count-on x =
       record {
         met = x .met;
-        met-exactly = λ i j l m. (λ h. reach-on (x .met-exactly i j l m .0 h), λ r. x .met-exactly i j l m .1 (reach-back r));
+        met-exactly = λ i j l m. (λ h. reach-on d p w v a b (x .met-exactly i j l m .0 h), λ r. x .met-exactly i j l m .1 (reach-back r));
         is = x .is;
       }
 
-  fewest-on : (K : ℕ) → Fewest (table-rules d) (table-rules p) K → Fewest (table-rules e) (table-rules q) K
-  unfolding Fewest sort allows judge
-  fewest-on K f = f
-
-  safe-on : Safe (table-rules d) (table-rules p) → Safe (table-rules e) (table-rules q)
+  fewest-on : (K : ℕ) → Fewest D P K → Fewest (table-rules e) (table-rules q) K
   unfolding sort allows judge
-  safe-on f = f
+  fewest-on K f = fewest-back D P a (d .edition) b (p .edition) K f
+
+  safe-on : Safe D P → Safe (table-rules e) (table-rules q)
+  unfolding sort allows judge
+  safe-on f = safe-back D P a (d .edition) b (p .edition) f
 
   -- ---- shown moves
 
@@ -78,50 +98,57 @@ module _ (d p : Table) (w v : List ℕ) where
   speaks-on receives i j k = refl
   speaks-on ends i j k = refl
 
-  abbrev moved : Machine ℕ ℕ → Move → Machine ℕ ℕ
-  moved m x = move (table-rules d) (table-rules p) m x
+  shown-more : (m : Machine ℕ ℕ) (x : Move) (k : ℕ) (ks : List ℕ) (h : Option ℕ)
+      → but-last (x ∷ shown d p m (k ∷ ks) h) ≡ x ∷ but-last (shown d p m (k ∷ ks) h)
+  unfolding shown but-last
+  shown-more m x k [] h = refl
+  shown-more m x k (l ∷ ks) h = refl
 
-  shown-on : (m : Machine ℕ ℕ) (ks : List ℕ) (h : Option ℕ) → shown d p m ks h ≡ shown e q m ks h
-  unfolding shown sort allows judge
-  shown-on m [] h = refl
-  shown-on m (k ∷ []) h = ap (λ x. x ∷ []) (spoken-on (sort d (m .state)) k h)
-  shown-on m (k ∷ l ∷ ks) h =
-      ap (λ x. x ∷ shown d p (moved m x) (l ∷ ks) h) (spoken-on (sort d (m .state)) k none)
-      ∙ ap (λ r. spoken e q (sort d (m .state)) k none ∷ r) (shown-on (moved m (spoken e q (sort d (m .state)) k none)) (l ∷ ks) h)
-
-  speakers-on : (m : Machine ℕ ℕ) (ks : List ℕ) → of-speakers d p m ks ≡ of-speakers e q m ks
-  unfolding of-speakers sort allows judge
-  speakers-on m [] = refl
-  speakers-on m (k ∷ ks) =
-      ap₂ (λ b x. b && of-speakers d p (moved m x) ks) (speaks-on (sort d (m .state)) (m .state) (m .position) k)
-      (spoken-on (sort d (m .state)) k none)
-      ∙ ap (λ b. speaks e q (sort d (m .state)) (m .state) (m .position) k && b) (speakers-on (moved m (spoken e q (sort d (m .state)) k none)) ks)
-
-  shown-same : (ks : List ℕ) (h : Option ℕ) → shown-moves d p ks h ≡ shown-moves e q ks h
-  unfolding sort allows judge
-  shown-same ks h = shown-on (fresh-machine (table-rules d) (table-rules p)) ks h
+  -- where all but the last are forwarded, they are the speakers' and the moves shown alike
+  shown-on : (m : Machine ℕ ℕ) (ks : List ℕ) (h : Option ℕ) → all-forwarded D P m (but-last (shown d p m ks h)) ≡ true
+      → (shown d p m ks h ≡ shown e q m ks h) × (of-speakers d p m ks ≡ of-speakers e q m ks)
+  unfolding shown of-speakers all-forwarded sort allows judge
+  shown-on m [] h f = (refl, refl)
+  shown-on m (k ∷ []) h f =
+      let s = sort d (m .state) in
+      (ap (λ x. x ∷ []) (spoken-on s k h), ap (λ b. b && true) (speaks-on s (m .state) (m .position) k))
+  shown-on m (k ∷ l ∷ ks) h f =
+      let s = sort d (m .state) in
+      let x = spoken d p s k none in
+      let n = move D P m x in
+      let c = subst (λ vs. all-forwarded D P m vs ≡ true) (shown-more n x l ks h) f in
+      let g = both (is-forward (does D P m x)) (all-forwarded D P n (but-last (shown d p n (l ∷ ks) h))) c in
+      let r = shown-on n (l ∷ ks) h (g .1) in
+      let o = forward-move D P (d .edition) a (p .edition) b m x (g .0) ∙ ap (move (table-rules e) (table-rules q) m) (spoken-on s k none) in (
+        ap₂ _∷_ (spoken-on s k none) (r .0 ∙ ap (λ n. shown e q n (l ∷ ks) h) o),
+        ap₂ _&&_ (speaks-on s (m .state) (m .position) k) (r .1 ∙ ap (λ n. of-speakers e q n (l ∷ ks)) o),
+      )
 
   failing-on : {ks : List ℕ} {h : Option ℕ} → Failing d p ks h → Failing e q ks h
-  unfolding sort allows judge
+  unfolding sort allows judge run fresh-machine arrived
   failing-on {ks} {h} x =
-      let a = table-rules d in
-      let b = table-rules p in
-      let s = shown-same ks h in
+      let s = shown-on fresh ks h (x .forwarded) in
+      let t = table-rules e in
+      let u = table-rules q in
       record {
-        branches = sym (speakers-on (fresh-machine a b) ks) ∙ x .branches;
-        real = subst (λ vs. moves vs ≡ true) s (x .real);
-        forwarded = subst (λ vs. all-forwarded a b (fresh-machine a b) (but-last vs) ≡ true) s (x .forwarded);
-        ends-badly = subst (λ vs. bad (run a b vs .standing) ≡ true) s (x .ends-badly);
-        field-is-there = subst (λ vs. field-named h (last-count vs) ≡ true) s (x .field-is-there);
+        branches = sym (s .1) ∙ x .branches;
+        real = subst (λ vs. moves vs ≡ true) (s .0) (x .real);
+        forwarded =
+            subst (λ vs. all-forwarded t u fresh (but-last vs) ≡ true) (s .0)
+            (all-on D P (d .edition) a (p .edition) b fresh (but-last (shown-moves d p ks h)) (x .forwarded) .0);
+        ends-badly =
+            subst (λ vs. bad (run t u vs .standing) ≡ true) (s .0)
+            (bad-on D P (d .edition) a (p .edition) b fresh (shown-moves d p ks h) (x .forwarded) (x .ends-badly));
+        field-is-there = subst (λ vs. field-named h (last-count vs) ≡ true) (s .0) (x .field-is-there);
       }
 
 -- ---- answers
 
-module _ (d e p q : Words) (a : SharesAside d e) (b : SharesAside p q) where
-  -- what is said of both tables, whatever their shares
-  on-view : (P : Table → Table → Type 0) → ((w v : List ℕ) → P (with (view d) w) (with (view p) v)) → P (view e) (view q)
+module _ (d e p q : Words) (a : EditionAside d e) (b : EditionAside p q) where
+  -- what is said of both tables, whatever their shares and editions
+  on-view : (P : Table → Table → Type 0) → ((w v : List ℕ) (f g : ℕ) → P (with (view d) w f) (with (view p) v g)) → P (view e) (view q)
   on-view P h =
-      subst (λ x. P x (view q)) (with-view d e a) (subst (λ y. P (with (view d) (view e .shares)) y) (with-view p q b) (h (view e .shares) (view q .shares)))
+      subst₂ P (with-view d e a) (with-view p q b) (h (view e .shares) (view q .shares) (view e .edition) (view q .edition))
 
   same-questions : (room : ℕ) → fit-questions d p room ≡ fit-questions e q room
   unfolding fit-questions
@@ -138,8 +165,8 @@ module _ (d e p q : Words) (a : SharesAside d e) (b : SharesAside p q) where
   answered-on before after (fits c) x =
       record {
         asked = ap first-no (sym (same-questions (length before))) ∙ x .asked;
-        it-fits = on-view (λ s t. Fits s t) (λ w v. fits-on (view d) (view p) w v (x .it-fits));
-        count = on-view (λ s t. Count s t c) (λ w v. count-on (view d) (view p) w v (x .count));
+        it-fits = on-view (λ s t. Fits s t) (λ w v f g. fits-on (view d) (view p) w v f g (x .it-fits));
+        count = on-view (λ s t. Count s t c) (λ w v f g. count-on (view d) (view p) w v f g (x .count));
         unchanged = x .unchanged;
       }
   answered-on before after (fails K h) x =
@@ -147,18 +174,22 @@ module _ (d e p q : Words) (a : SharesAside d e) (b : SharesAside p q) where
         asked = ap first-no (sym (same-questions (length before))) ∙ x .asked;
         numbers = x .numbers;
         many = x .many;
-        played =
-            on-view (λ s t. length (shown-moves s t (x .numbers) h) ≡ K)
-            (λ w v. ap length (sym (shown-same (view d) (view p) w v (x .numbers) h)) ∙ x .played);
+        played = shown-length (view e) (view q) (fresh-machine (table-rules (view e)) (table-rules (view q))) (x .numbers) h ∙ x .many;
         within = rw (sym (same-states d e a), sym (same-states p q b)) (x .within);
         list = x .list;
-        failing = on-view (λ s t. Failing s t (x .numbers) h) (λ w v. failing-on (view d) (view p) w v (x .failing));
-        fewest = on-view (λ s t. Fewest (table-rules s) (table-rules t) K) (λ w v. fewest-on (view d) (view p) w v K (x .fewest));
+        failing = on-view (λ s t. Failing s t (x .numbers) h) (λ w v f g. failing-on (view d) (view p) w v f g (x .failing));
+        fewest = on-view (λ s t. Fewest (table-rules s) (table-rules t) K) (λ w v f g. fewest-on (view d) (view p) w v f g K (x .fewest));
       }
 
+pub fit-edition-unseen : FitEditionUnseen
+fit-edition-unseen = answered-on
+
+pub safe-edition-unseen : SafeEditionUnseen
+safe-edition-unseen d e p q a b f =
+    on-view d e p q a b (λ s t. Safe (table-rules s) (table-rules t)) (λ w v g h. safe-on (view d) (view p) w v g h f)
+
 pub fit-shares-unseen : FitSharesUnseen
-fit-shares-unseen = answered-on
+fit-shares-unseen d e p q a b = fit-edition-unseen d e p q (editions-too d e a) (editions-too p q b)
 
 pub safe-shares-unseen : SafeSharesUnseen
-safe-shares-unseen d e p q a b f =
-    on-view d e p q a b (λ s t. Safe (table-rules s) (table-rules t)) (λ w v. safe-on (view d) (view p) w v f)
+safe-shares-unseen d e p q a b = safe-edition-unseen d e p q (editions-too d e a) (editions-too p q b)

@@ -11,16 +11,17 @@ use Rattle.table.specs.Lists.{first-no}
 use Rattle.table.specs.Table.{Sort, ends, sends, receives, is-choice, sort, speaker, is-party}
 use Rattle.table.specs.View.{Words, view, sound-of}
 use Rattle.message.specs.Message.{read, well-formed}
-use Rattle.message.specs.Judge.{allows}
+use Rattle.message.specs.Judge.{allows, judge}
 use Rattle.table.specs.declared.Party.{Party}
 use Rattle.table.specs.declared.Party.the-variants.{Device, Host}
 use Rattle.monitor.specs.declared.State.{State}
 use Rattle.monitor.specs.declared.Stepped.{Stepped}
-use Rattle.monitor.specs.declared.Reason.the-variants.{NoLabel, OtherKinds, OutOfRange}
+use Rattle.monitor.specs.declared.Reason.the-variants.{NoLabel, OtherKinds, OutOfRange, Early}
 use Rattle.monitor.specs.declared.Verdict.{Verdict}
 use Rattle.monitor.specs.declared.Verdict.the-variants.{Refused, Blamed, Forwarded}
-use Rattle.monitor.specs.Step.{step-questions, blamed, forwarded, told, Outcome, forwarding, blaming, stepping, outcome}
+use Rattle.monitor.specs.Step.{step-questions, blamed, forwarded, told, Outcome, forwarding, blaming, judging, stepping, outcome}
 use Rattle.monitor.specs.Counts.{Counts, counts-sound, legal-setting, start-questions, starting, counted-step}
+use Rattle.monitor.proofs.Asking.{turn-its, may-speak}
 use Rattle.monitor.proofs.Raising.{fresh-sound}
 use Rattle.together.specs.Together.{running-at}
 use Rattle.together.proofs.Together.{asks, turn, judged-some, judged-none}
@@ -29,15 +30,15 @@ use Rattle.report.specs.Playing.{InTurn}
 clash : {X : Type 0} → _≡_ {A = ℕ} 0 1 → X
 clash z = absurd (omega arith)
 
--- where it is the side's turn 11 and 12 get a yes
-in-turn : (s : Sort) (side : Party) → speaker s ≡ some side
-    → _≡_ {A = ℕ} (cond (is-choice s) (cond (is-party side (speaker s)) 0 12) 11) 0
+-- where it is the side's turn 11 and 12 get a yes, under either edition
+in-turn : (edition : ℕ) (s : Sort) (side : Party) → speaker s ≡ some side
+    → _≡_ {A = ℕ} (cond (is-choice s) (cond (may-speak edition s side) 0 12) 11) 0
 unfolding speaker is-party is-choice
-in-turn ends side e = let z : _≡_ {A = ℕ} 0 1 = cc in clash z
-in-turn sends Device e = refl
-in-turn sends Host e = let z : _≡_ {A = ℕ} 0 1 = cc in clash z
-in-turn receives Device e = let z : _≡_ {A = ℕ} 0 1 = cc in clash z
-in-turn receives Host e = refl
+in-turn edition ends side e = let z : _≡_ {A = ℕ} 0 1 = cc in clash z
+in-turn edition sends Device e = refl
+in-turn edition sends Host e = let z : _≡_ {A = ℕ} 0 1 = cc in clash z
+in-turn edition receives Device e = let z : _≡_ {A = ℕ} 0 1 = cc in clash z
+in-turn edition receives Host e = refl
 
 started-sound : (t : Words) → sound-of t ≡ true → counts-sound t (starting t 1 .counts) ≡ true
 unfolding starting start-questions first-no legal-setting
@@ -58,12 +59,14 @@ module _ (t : Words) (i : ℕ) (side : Party) (u : InTurn t i side) (bytes : Lis
   e = ap (λ (x : Outcome × Counts). x .0) k ∙ rw (ap (counts-sound t) begun ∙ started-sound t (u .sound))
 
   no-question : first-no (step-questions t (running-at i) side bytes (length before)) ≡ 0
-  no-question = asks t (u .sound) i (u .inside) side bytes formed before room ∙ in-turn (sort (view t) i) side (u .turn)
+  no-question = asks t (u .sound) i (u .inside) side bytes formed before room ∙ in-turn (view t .edition) (sort (view t) i) side (u .turn)
+
+  -- so the message is judged
+  judges : outcome r after ≡ judging (judge (view t) i (read bytes)) (running-at i) side bytes before
+  judges = e ∙ turn t (u .sound) i (u .inside) side bytes formed before room no-question (ap (is-party side) (u .turn) ∙ turn-its side)
 
   forwards : {b : ℕ} → allows (view t) i (read bytes) ≡ some b → outcome r after ≡ forwarding b bytes (running-at i) before
-  forwards {b} f =
-      e ∙ turn t (u .sound) i (u .inside) side bytes formed before room no-question
-      ∙ judged-some t (u .sound) i (u .inside) side bytes formed before room b f
+  forwards {b} f = judges ∙ judged-some t (u .sound) i (u .inside) side bytes formed before room b f
 
   pub hears : heard-as (r .verdict) (r .state) ≡ allows (view t) i (read bytes)
   unfolding heard-as told outcome forwarding blaming
@@ -74,6 +77,7 @@ module _ (t : Words) (i : ℕ) (side : Party) (u : InTurn t i side) (bytes : Lis
       on (Blamed side NoLabel) s b f g = let z : _≡_ {A = ℕ} 0 1 = cc in clash z
       on (Blamed side OtherKinds) s b f g = let z : _≡_ {A = ℕ} 0 1 = cc in clash z
       on (Blamed side (OutOfRange n)) s b f g = let z : _≡_ {A = ℕ} 0 1 = cc in clash z
+      on (Blamed side Early) s b f g = let z : _≡_ {A = ℕ} 0 1 = cc in clash z
       on (Refused q) s b f g = let z : _≡_ {A = ℕ} 0 1 = cc in clash z
 
       off : (v : Verdict) (s : State) {p : Party} {n : ℕ} {o : Option ℕ} → told v ≡ blamed p n o → heard-as v s ≡ none
@@ -86,6 +90,5 @@ module _ (t : Words) (i : ℕ) (side : Party) (u : InTurn t i side) (bytes : Lis
           let q = forwards f in
           on (r .verdict) (r .state) b (ap (λ (x : Outcome). x .verdict) q) (ap (λ (x : Outcome). x .state .position) q) ∙ sym f
       go none f =
-          let w = judged-none t (u .sound) i (u .inside) side bytes formed before room f in
-          let q = e ∙ turn t (u .sound) i (u .inside) side bytes formed before room no-question ∙ w .2 in
+          let q = judges ∙ judged-none t (u .sound) i (u .inside) side bytes formed before room f .2 in
           off (r .verdict) (r .state) (ap (λ (x : Outcome). x .verdict) q) ∙ sym f
