@@ -1,6 +1,6 @@
 -- The claims of texts: reading joins bytes and types, and a type and its table go on together, in conversations and on the machine.
 -- Assumes nothing.
-use mathlib.Core.Path.{_≡_, refl, sym, ap, _∙_}
+use mathlib.Core.Path.{_≡_, refl, sym, ap, subst₂, _∙_}
 use mathlib.Core.Logic.{_↔_}
 use mathlib.Core.List.{List, map}
 use Prim.Native.Nat.{ℕ, _*_}
@@ -11,25 +11,26 @@ use Rattle.table.specs.Lists.{first-no}
 use Rattle.table.specs.View.{states-of, view}
 use Rattle.table.proofs.Lists.{never}
 use Rattle.message.specs.Rules.{Rules, table-rules}
-use Rattle.text.specs.Grammar.{Ty, Writes}
+use Rattle.text.specs.Grammar.{Ty, Protocol, Writes, edition-named}
 use Rattle.text.specs.Filled.{Reading}
 use Rattle.text.specs.Reading.{reads}
 use Rattle.text.proofs.Exactly.{read-sound}
 use Rattle.text.proofs.Unique.{syntax-unique}
 use Rattle.spelling.proofs.Read.{writes-spelt, read-spelt}
-use Rattle.types.specs.Types.{type-rules}
+use Rattle.types.specs.Types.{protocol-rules}
 use Rattle.types.proofs.Agree.{Stands-for, Rules-alike}
 use Rattle.types.proofs.Texts.{text-rules}
-use Rattle.types.proofs.Headline.{type-demand}
+use Rattle.types.proofs.Headline.{type-demand, type-early}
 use Rattle.monitor.specs.Conversation.{Event}
 use Rattle.monitor.proofs.Watching.{batches-watched}
 use Rattle.fit.specs.Machine.{Move, Safe, Unsafe, Shortest}
 use Rattle.fit.specs.Answer.{Answer, refused, fits, fails, fit-questions, Demand}
 use Rattle.fit.proofs.Demand.{demand-three}
+use Rattle.fit.proofs.Editions.{safe-back}
 use Rattle.fit.proofs.Fewest.{fit-fewest}
 use Rattle.together.proofs.Unblamed.{fits-unblamed}
 use Rattle.report.proofs.Exactly.{reports-fit, reports-no-fit, reports-fewest}
-use Rattle.demands.specs.Demands.{TextOf, ReadOfTexts, OneType, DemandTwoOfTexts, BatchesOfTexts, DemandThreeOfTexts, ReportsOfTexts, FewestOfTexts, ReportsFewestOfTexts, UnblamedOfTexts}
+use Rattle.demands.specs.Demands.{TextOf, ReadOfTexts, OneProtocol, DemandTwoOfTexts, EarlyOfTexts, BatchesOfTexts, DemandThreeOfTexts, EditionsOfTexts, ReportsOfTexts, FewestOfTexts, ReportsFewestOfTexts, UnblamedOfTexts}
 use Rattle.demands.proofs.Likeness.{alike-itself, safe-like, unsafe-like, shortest-like}
 
 -- ---- one text
@@ -40,7 +41,7 @@ read-of-texts s = (
   λ x. ap (λ (r : Reading). r .question) (read-spelt s _ .1 (x .0, x .1 .short, x .1 .spelt, x .1 .legal, refl) .0),
 )
 
-module _ (s : List ℕ) (t : Ty) (x : TextOf s t) where
+module _ (s : List ℕ) (t : Protocol) (x : TextOf s t) where
   is-read : reads s .question ≡ 0
   is-read = read-of-texts s .1 (t, x)
 
@@ -48,11 +49,11 @@ module _ (s : List ℕ) (t : Ty) (x : TextOf s t) where
   writes = writes-spelt s t .1 (x .short, x .spelt)
 
   -- the type and the table that is read go on together
-  goes-along : Rules-alike (Stands-for (view (reads s .table))) (type-rules t) (table-rules (view (reads s .table)))
+  goes-along : Rules-alike (Stands-for (view (reads s .table))) (protocol-rules t) (table-rules (view (reads s .table)))
   goes-along = text-rules s is-read t writes
 
-pub one-type : OneType
-one-type s t u x y = syntax-unique s t u (writes s t x) (writes s u y)
+pub one-protocol : OneProtocol
+one-protocol s p q x y = syntax-unique s p q (writes s p x) (writes s q y)
 
 pub demand-two-of-texts : DemandTwoOfTexts
 demand-two-of-texts s t x sent = type-demand s (is-read s t x) t (writes s t x) sent
@@ -67,34 +68,37 @@ batches-of-texts s t x calls =
       watched = demand-two-of-texts s t x (map (λ (e : Event). e .sent) (b .events));
     }
 
+pub early-of-texts : EarlyOfTexts
+early-of-texts s p x sent = type-early s (is-read s p x) p (writes s p x) sent
+
 -- ---- two texts
 
-module _ (protocol device : List ℕ) (p d : Ty) (x : TextOf protocol p) (y : TextOf device d) where
+module _ (protocol device : List ℕ) (p d : Protocol) (x : TextOf protocol p) (y : TextOf device d) where
   abbrev T : Table
   T = view (reads device .table)
 
   abbrev U : Table
   U = view (reads protocol .table)
 
-  safe : Safe (type-rules d) (type-rules p) ↔ Safe (table-rules T) (table-rules U)
+  safe : Safe (protocol-rules d) (protocol-rules p) ↔ Safe (table-rules T) (table-rules U)
   safe =
-      safe-like (Stands-for T) (Stands-for U) (type-rules d) (table-rules T) (type-rules p) (table-rules U) (goes-along device d y)
+      safe-like (Stands-for T) (Stands-for U) (protocol-rules d) (table-rules T) (protocol-rules p) (table-rules U) (goes-along device d y)
       (goes-along protocol p x)
 
-  unsafe : Unsafe (type-rules d) (type-rules p) ↔ Unsafe (table-rules T) (table-rules U)
+  unsafe : Unsafe (protocol-rules d) (protocol-rules p) ↔ Unsafe (table-rules T) (table-rules U)
   unsafe =
-      unsafe-like (Stands-for T) (Stands-for U) (type-rules d) (table-rules T) (type-rules p) (table-rules U) (goes-along device d y)
+      unsafe-like (Stands-for T) (Stands-for U) (protocol-rules d) (table-rules T) (protocol-rules p) (table-rules U) (goes-along device d y)
       (goes-along protocol p x)
 
-  shortest : (K : ℕ) (vs : List Move) → Shortest (type-rules d) (type-rules p) K vs ↔ Shortest (table-rules T) (table-rules U) K vs
+  shortest : (K : ℕ) (vs : List Move) → Shortest (protocol-rules d) (protocol-rules p) K vs ↔ Shortest (table-rules T) (table-rules U) K vs
   shortest =
-      shortest-like (Stands-for T) (Stands-for U) (type-rules d) (table-rules T) (type-rules p) (table-rules U) (goes-along device d y)
+      shortest-like (Stands-for T) (Stands-for U) (protocol-rules d) (table-rules T) (protocol-rules p) (table-rules U) (goes-along device d y)
       (goes-along protocol p x)
 
   -- the device's type against the protocol's table, which the monitor has
-  beside : Safe (type-rules d) (type-rules p) ↔ Safe (type-rules d) (table-rules U)
+  beside : Safe (protocol-rules d) (protocol-rules p) ↔ Safe (protocol-rules d) (table-rules U)
   beside =
-      safe-like (_≡_ {A = Ty}) (Stands-for U) (type-rules d) (type-rules d) (type-rules p) (table-rules U) (alike-itself (type-rules d))
+      safe-like (_≡_ {A = Ty}) (Stands-for U) (protocol-rules d) (protocol-rules d) (protocol-rules p) (table-rules U) (alike-itself (protocol-rules d))
       (goes-along protocol p x)
 
 safe-unsafe : {D P X : Type 0} (d : Rules D) (p : Rules P) → Safe d p → Unsafe d p → X
@@ -141,6 +145,13 @@ reports-of-texts protocol device p d x y report r =
       says-no-fit = (λ h. b .1 (g .0 h), λ h. g .1 (b .0 h));
     }
 
+pub editions-of-texts : EditionsOfTexts
+editions-of-texts p q d c e f h =
+    let n = edition-named (q .opening) in
+    let m = edition-named (c .opening) in
+    subst₂ (λ (t u : Ty). Safe (protocol-rules (record { opening = c .opening; type = u })) (protocol-rules (record { opening = q .opening; type = t }))) e f
+    (safe-back (protocol-rules d) (protocol-rules p) m (edition-named (d .opening)) n (edition-named (p .opening)) h)
+
 pub fewest-of-texts : FewestOfTexts
 fewest-of-texts protocol device p d x y before after r answered =
     let a = shortest protocol device p d x y in
@@ -161,5 +172,5 @@ reports-fewest-of-texts protocol device p d x y report r u =
 
 pub unblamed-of-texts : UnblamedOfTexts
 unblamed-of-texts protocol device p d x y safe sent keeps =
-    fits-unblamed Ty (type-rules d) (reads protocol .table) (read-sound protocol (is-read protocol p x))
+    fits-unblamed Ty (protocol-rules d) (reads protocol .table) (read-sound protocol (is-read protocol p x))
     (beside protocol device p d x y .0 safe) sent keeps

@@ -1,11 +1,12 @@
 -- Rules that do alike make machines that do alike: the same list of moves leaves both with the same standing.
 -- Assumes nothing.
-use mathlib.Core.Path.{_≡_, refl, sym, ap, ap₂, subst, _∙_}
+use mathlib.Core.Path.{_≡_, refl, sym, ap, ap₂, subst, subst₂, _∙_}
 use mathlib.Core.Logic.{_↔_}
-use mathlib.Core.Bool.{Bool, true, false, cond}
+use mathlib.Core.Bool.{Bool, true, false, _&&_, cond}
 use mathlib.Core.List.{List, [], _∷_}
 use mathlib.Core.Option.{Option, none, some}
 use Prim.Native.Nat.{ℕ}
+use lib.Dec.{eqb}
 use Rattle.table.specs.Table.{Sort, sends, receives, same-sort}
 use Rattle.table.specs.declared.Party.{Party}
 use Rattle.table.specs.declared.Party.the-variants.{Device, Host}
@@ -13,7 +14,7 @@ use Rattle.message.specs.Message.{Message, read, well-formed}
 use Rattle.message.specs.Rules.{Rules}
 use Rattle.types.proofs.Stands.{Alike, neither, each}
 use Rattle.types.proofs.Agree.{why, Rules-alike}
-use Rattle.fit.specs.Machine.{Standing, running, device-blamed, host-blamed, jammed, Machine, Move, Effect, nothing, forward, halt, from-device, from-host, while-running, arrived, fresh-machine, by-side, effect, does, after, move, play, run, bad, Safe, Unsafe, Fewest, Shortest}
+use Rattle.fit.specs.Machine.{Standing, running, device-blamed, host-blamed, jammed, Machine, Move, Effect, nothing, forward, halt, from-device, from-host, host-early, while-running, arrived, fresh-machine, by-side, effect, does, after, move, play, run, bad, Safe, Unsafe, Fewest, Shortest}
 
 -- rules do as they do
 pub alike-itself : {A : Type 0} (r : Rules A) → Rules-alike (_≡_ {A = A}) r r
@@ -23,6 +24,7 @@ alike-itself {A} r =
       sorted = λ a b e. ap (r .sort) e;
       steps = λ a b e m. subst (λ (x : A). Alike (_≡_ {A = A}) (r .allows a m) (r .allows x m)) e (same (r .allows a m));
       whys = λ a b e m. ap (λ (x : A). why (r .judge x m)) e;
+      editions = refl;
     }
   where
     same : (o : Option A) → Alike (_≡_ {A = A}) o o
@@ -52,9 +54,20 @@ module _ {A B C D : Type 0} (S : A → B → Type 0) (T : C → D → Type 0) wh
   by-host neither (each t) = both-stop jammed
   by-host (each s) (each t) = both-forward s t
 
+  by-early : (edition : ℕ) (s : Sort) → Effects (host-early edition s) (host-early edition s)
+  unfolding host-early
+  by-early edition s = go (eqb edition 2 && same-sort s sends)
+    where
+      go : (b : Bool) → Effects (cond b (halt host-blamed) nothing) (cond b (halt host-blamed) nothing)
+      go true = both-stop host-blamed
+      go false = both-nothing
+
+  either : (b : Bool) {e g : Effect A C} {f h : Effect B D} → Effects e f → Effects g h → Effects (cond b e g) (cond b f h)
+  either true x y = x
+  either false x y = y
+
   if-so : (b : Bool) {e : Effect A C} {f : Effect B D} → Effects e f → Effects (cond b e nothing) (cond b f nothing)
-  if-so true x = x
-  if-so false x = both-nothing
+  if-so b x = either b x both-nothing
 
   still-running : (s : Standing) {e : Effect A C} {f : Effect B D} → Effects e f → Effects (while-running s e) (while-running s f)
   unfolding while-running
@@ -79,8 +92,9 @@ module _ {A B C D : Type 0} (S : A → B → Type 0) (T : C → D → Type 0) wh
         subst (λ (u : Sort). Effects (by-side a c Device i j m) (cond (same-sort u sends) (from-device (b .allows x m) (d .allows y m)) nothing)) (l .sorted i x s)
         (if-so (same-sort (a .sort i) sends) (by-device (l .steps i x s m) (k .steps j y t m)))
     by-side-like Host i x j y m s t =
-        subst (λ (u : Sort). Effects (by-side a c Host i j m) (cond (same-sort u receives) (from-host (d .allows y m) (b .allows x m)) nothing)) (k .sorted j y t)
-        (if-so (same-sort (c .sort j) receives) (by-host (l .steps i x s m) (k .steps j y t m)))
+        subst₂ (λ (u : Sort) (n : ℕ). Effects (by-side a c Host i j m) (cond (same-sort u receives) (from-host (d .allows y m) (b .allows x m)) (host-early n u)))
+        (k .sorted j y t) (k .editions)
+        (either (same-sort (c .sort j) receives) (by-host (l .steps i x s m) (k .steps j y t m)) (by-early (c .edition) (c .sort j)))
 
     effect-like : (i : A) (x : B) (j : C) (y : D) (v : Move) → S i x → T j y → Effects (effect a c i j v) (effect b d x y v)
     unfolding effect

@@ -8,7 +8,8 @@ use Rattle.message.specs.Message.{number-of, first-number, pair-up, count-of, v
 use Rattle.message.specs.Message.{whole, legal-value, legal-values, exact, legal-texts, refusal}
 use Rattle.text.proofs.Exactly.{read-sound}
 use Rattle.monitor.proofs.Warnings.{warning-examples}
-use Rattle.examples.specs.Requests.{NamesAfterRec, SharesRead, shared-text, TextsAsked}
+use Rattle.examples.specs.Requests.{NamesAfterRec, SharesRead, shared-text, TextsAsked, Q, EditionsRead, EarlyOk}
+use Rattle.examples.proofs.Steps.{asks-100, ok-early, ok-no-room, ok-broken}
 use Rattle.examples.proofs.Tables as R
 
 pub names-after-rec : NamesAfterRec
@@ -37,4 +38,19 @@ texts-asked =
       other-encoding = refl;
       nul-and-mark = refl;
       too-short = refl;
+    }
+
+pub editions-read : EditionsRead
+editions-read = R.read .editions-read
+
+pub early-ok : EarlyOk
+early-ok =
+    let Q-reads = R.read .Q-reads in
+    let Q-view = R.read .Q-view in
+    record {
+      reads-Q = Q-reads .0;
+      early = ok-early Q R.Q-sound (Q-reads .1) Q-view;
+      no-room = ok-no-room Q R.Q-sound (Q-reads .1) Q-view;
+      broken = ok-broken Q R.Q-sound (Q-reads .1) Q-view;
+      in-turn = asks-100 Q 2 R.Q-sound (Q-reads .1) Q-view;
     }

@@ -3,12 +3,18 @@
 use mathlib.Core.Path.{_≡_}
 use mathlib.Core.Bool.{true}
 use mathlib.Core.List.{List, [], _∷_}
-use Prim.Native.Nat.{ℕ}
+use mathlib.Core.Option.{none}
+use Prim.Native.Nat.{ℕ, _≤_, _<_}
 use Prim.Native.String.{String}
-use Rattle.table.specs.View.{view, sound-of}
+use lib.ListN.{length}
+use Rattle.table.specs.View.{Words, view, sound-of}
+use Rattle.table.specs.declared.Party.the-variants.{Device, Host}
 use Rattle.message.specs.Message.{refusal}
+use Rattle.message.specs.Make.{opening}
+use Rattle.monitor.specs.declared.Standing.the-variants.{Running, HostBlamed}
+use Rattle.monitor.specs.Step.{refused, blamed, forwarded, fresh, stepping}
 use Rattle.monitor.specs.Warning.{WarningExamples}
-use Rattle.examples.specs.Twelve.{Reads, RefusedAt, table}
+use Rattle.examples.specs.Twelve.{Reads, RefusedAt, table, ask, ok, gives}
 use Rattle.table.specs.Table as T
 
 -- ---- request 1: names straight after rec
@@ -20,6 +26,7 @@ A-again =
       sorts = T.sends ∷ [];
       branches = record { owner = 0; label = 65 ∷ 0 ∷ 0 ∷ 0 ∷ 0 ∷ 0 ∷ 0 ∷ 0 ∷ []; fields = []; target = 0 } ∷ [];
       shares = 0 ∷ [];
+      edition = 1;
     }
 
 abbrev pub ReadsAs : String → T.Table → Type 0
@@ -49,6 +56,7 @@ A-or-B =
           ∷ record { owner = 0; label = 66 ∷ 0 ∷ 0 ∷ 0 ∷ 0 ∷ 0 ∷ 0 ∷ 0 ∷ []; fields = []; target = 2 }
           ∷ [];
       shares = 10 ∷ 990 ∷ [];
+      edition = 1;
     }
 
 pub record SharesRead : Type 0 where
@@ -78,3 +86,42 @@ pub record TextsAsked : Type 0 where
   pub nul-and-mark : refusal (grades 1 3 (0x00 ∷ 0xEF ∷ 0xBB ∷ 0xBF ∷ [])) ≡ 0
   -- 15 first
   pub too-short : refusal (grades 2 0 (0xE9 ∷ [])) ≡ 15
+
+-- ---- request 7: edition two and the early message
+
+-- `end` under an edition
+abbrev pub end-under : ℕ → T.Table
+end-under e = record { sorts = T.ends ∷ []; branches = []; shares = []; edition = e }
+
+-- document 01's P under edition 2
+abbrev pub Q-text : String
+Q-text = "edition 2 rec X.+{!Ask(int[0..100]).&{?Ok().X},!Quit().end}"
+
+unfoldable pub Q : Words
+Q = table Q-text
+
+pub record EditionsRead : Type 0 where
+  pub no-opening : ReadsAs "end" (end-under 1)
+  pub first : ReadsAs "edition 1 end" (end-under 1)
+  pub second : ReadsAs "edition 2end" (end-under 2)
+  pub no-blank : RefusedAt "edition1 end" 2 0
+  pub leading-zero : RefusedAt "edition 02 end" 2 8
+  pub no-number : RefusedAt "edition end" 3 8
+  pub no-type : RefusedAt "edition 2" 3 9
+  pub twice : RefusedAt "edition 2 edition 2 end" 3 10
+  pub elsewhere : RefusedAt "+{!A().edition 2 end}" 3 7
+  pub at-the-end : RefusedAt "end edition 2" 3 4
+  pub third : RefusedAt "edition 3 end" 23 8
+  pub negative : RefusedAt "edition -1 end" 23 8
+  pub longer : RefusedAt "edition 12 end" 23 8
+
+-- under Q, where the host's Ok is early
+pub record EarlyOk : Type 0 where
+  pub reads-Q : Reads Q-text
+  -- it blames the host with reason 4, though no branch there has the label
+  pub early : (out : List ℕ) → 9 ≤ length out → stepping Q fresh Host ok out ≡ gives (blamed Host 4 none) 0 HostBlamed out
+  -- without room it is refused by 16, broken by the message's question
+  pub no-room : (out : List ℕ) → length out < 9 → stepping Q fresh Host ok out ≡ gives (refused 16) 0 Running out
+  pub broken : (out : List ℕ) → stepping Q fresh Host [] out ≡ gives (refused 13) 0 Running out
+  -- what comes in turn is forwarded as under P
+  pub in-turn : (out : List ℕ) → 14 ≤ length out → stepping Q fresh Device (ask 100) out ≡ gives forwarded 1 Running (opening (ask 100) out)

@@ -199,7 +199,7 @@ contractive-exactly t b = (λ g. guarded-contractive t (bound-closed t b, g), λ
     go false e c = let d = unguarded-diverges t e in absurd (c (d .0) (d .1) (d .2))
 
 pub read-contractive : ReadContractive
-read-contractive s h t w = let p = proper s h t w in guarded-contractive t (p .closed, p .guard)
+read-contractive s h t w = let p = proper s h t w in guarded-contractive (t .type) (p .closed, p .guard)
 
 pub five-silent : FiveSilent
-five-silent s h t w = unguarded-diverges t (five-unguarded s h t w)
+five-silent s h t w = unguarded-diverges (t .type) (five-unguarded s h t w)

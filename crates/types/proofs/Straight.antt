@@ -5,7 +5,7 @@ use mathlib.Core.List.{_∷_, _++_}
 use Prim.Native.Nat.{ℕ, suc, _+_}
 use lib.ListN.{length}
 use borrow.Author.Tests.{ne-eqb}
-use Rattle.text.specs.Grammar.{Ty, Br, way-sort, sorts, sorts-br, Scope, nothing-bound, bind, first-state, branch-for, branches, branches-br, share-of, shares, shares-br, table-of}
+use Rattle.text.specs.Grammar.{Ty, Br, way-sort, sorts, sorts-br, Scope, nothing-bound, bind, first-state, branch-for, branches, branches-br, share-of, shares, shares-br, table-of, Protocol, edition-named}
 use Rattle.text.specs.Filled.{Reading, filled}
 use Rattle.text.proofs.Exactly.{read-filled}
 use Rattle.types.specs.Straight.{Straight, at-end, at-name, before-name, in-rec, in-choice, StraightBr, in-last, in-also, StraightSame}
@@ -58,11 +58,11 @@ mutual
   same-shares-br (in-last {sh = sh} s) = ap (λ r. share-of sh ∷ r) (same-shares s)
   same-shares-br (in-also {sh = sh} s r) = ap₂ (λ a r. share-of sh ∷ (a ++ r)) (same-shares s) (same-shares-br r)
 
-same-table : {t u : Ty} → Straight t u → table-of u ≡ table-of t
+same-table : (p q : Protocol) → Straight (p .type) (q .type) → edition-named (p .opening) ≡ edition-named (q .opening) → table-of q ≡ table-of p
 unfolding table-of
-same-table s = rw (same-sorts s, same-branches s nothing-bound 0, same-shares s)
+same-table p q s e = rw (same-sorts s, same-branches s nothing-bound 0, same-shares s, e)
 
 pub straight-same : StraightSame
-straight-same s v h k t u w y d =
-    ap (λ (r : Reading). r .table) (read-filled v u y (legal v k u y)) ∙ ap filled (same-table d)
-    ∙ sym (ap (λ (r : Reading). r .table) (read-filled s t w (legal s h t w)))
+straight-same s v h k p q w y d e =
+    ap (λ (r : Reading). r .table) (read-filled v q y (legal v k q y)) ∙ ap filled (same-table p q d e)
+    ∙ sym (ap (λ (r : Reading). r .table) (read-filled s p w (legal s h p w)))

@@ -6,7 +6,7 @@ use mathlib.Core.Logic.{_↔_}
 use mathlib.Core.Bool.{true}
 use mathlib.Core.List.{List, []}
 use Prim.Native.Nat.{ℕ, suc}
-use Rattle.text.specs.Grammar.{Way, SyntaxField, Ty, loop, choice, Br, Writes, names-bound, recs-guarded}
+use Rattle.text.specs.Grammar.{Way, SyntaxField, Ty, loop, choice, Br, Protocol, Writes, names-bound, recs-guarded}
 use Rattle.text.specs.Reading.{reads}
 use Rattle.types.specs.Types.{unfolded, HasBranch}
 
@@ -37,8 +37,8 @@ ContractiveExactly = (t : Ty) → names-bound t [] ≡ true → (recs-guarded t 
 
 -- the type of a text that is read is contractive
 abbrev pub ReadContractive : Type 0
-ReadContractive = (s : List ℕ) → reads s .question ≡ 0 → (t : Ty) → Writes s t → Contractive t
+ReadContractive = (s : List ℕ) → reads s .question ≡ 0 → (p : Protocol) → Writes s p → Contractive (p .type)
 
 -- the type of a text that is refused by 5 is not: a path leads to where such a path begins
 abbrev pub FiveSilent : Type 0
-FiveSilent = (s : List ℕ) → reads s .question ≡ 5 → (t : Ty) → Writes s t → (u : Ty) × Reaches t u × Silent u
+FiveSilent = (s : List ℕ) → reads s .question ≡ 5 → (p : Protocol) → Writes s p → (u : Ty) × Reaches (p .type) u × Silent u

@@ -1,10 +1,10 @@
 -- A `rec` straight before a name means the state that the name means, and makes none (document 02, request 1): with it and without it,
--- texts are read into the same table.
+-- texts of one edition are read into the same table.
 -- Assumes nothing.
 use mathlib.Core.Path.{_≡_}
 use mathlib.Core.List.{List}
 use Prim.Native.Nat.{ℕ}
-use Rattle.text.specs.Grammar.{Way, SyntaxField, Share, Ty, stop, var, loop, choice, Br, last, also, Writes}
+use Rattle.text.specs.Grammar.{Way, SyntaxField, Share, Ty, stop, var, loop, choice, Br, last, also, Protocol, Writes, edition-named}
 use Rattle.text.specs.Reading.{reads}
 
 mutual
@@ -23,5 +23,5 @@ mutual
 
 abbrev pub StraightSame : Type 0
 StraightSame =
-    (s v : List ℕ) → reads s .question ≡ 0 → reads v .question ≡ 0 → (t u : Ty) → Writes s t → Writes v u → Straight t u
-    → reads v .table ≡ reads s .table
+    (s v : List ℕ) → reads s .question ≡ 0 → reads v .question ≡ 0 → (p q : Protocol) → Writes s p → Writes v q
+    → Straight (p .type) (q .type) → edition-named (p .opening) ≡ edition-named (q .opening) → reads v .table ≡ reads s .table
