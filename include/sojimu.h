@@ -28,11 +28,11 @@
  *    6  Is the number within its kind, and high not below low?
  *    7  Is the label new in its choice?
  *    8  Is the token within 32 states, 128 branches, 4 fields in a branch, and 16 choices and `rec`s open around one another?
- *    9  Is the table sound, its shares included, a position given with it one of its states, and are the counts of a state given
- *       with it sound: does each choice's k add up to its n, at most 10,000, and is the setting 1 to 1000?
+ *    9  Is the table sound, its shares included, its edition 1 or 2, a position given with it one of its states, and are the counts
+ *       of a state given with it sound: does each choice's k add up to its n, at most 10,000, and is the setting 1 to 1000?
  *   10  Is the standing running?
  *   11  Is the position not an end?
- *   12  Is it this side's turn?
+ *   12  Is it this side's turn? (Under edition 1. Edition 2 does not ask it of a side: who speaks out of turn is blamed.)
  *   13  Are there nine bytes, a legal label, a count of at most 4, and both arrays whole?
  *   14  Is every kind known and every number within its kind?
  *   15  Is the length exactly what this gives?
@@ -43,6 +43,7 @@
  *   20  Has the choice no shares, or one for each branch, which add to 1000? (Asked after 8, at its closing brace.)
  *   21  Is the setting 1 to 1000? (Asked after 9.)
  *   22  Is every text, by itself, well-formed UTF-8? (Asked after 15, before 16.)
+ *   23  Is the edition's number 1 or 2? (Asked after 3, at the number after the word `edition`.)
  */
 #ifndef SOJIMU_H
 #define SOJIMU_H
@@ -65,7 +66,7 @@ extern "C" {
 /* ---- constants */
 
 /* This header's version: raised whenever a struct or a call changes. */
-#define SOJIMU_VERSION UINT32_C(4)
+#define SOJIMU_VERSION UINT32_C(5)
 
 /* Limits. A message has at most 285 bytes, a list that question 17 never refuses 1,024 entries, a buffer that holds every report
  * 16,384 bytes. As soon as SOJIMU_FRONT bytes are there, a message announces its length. */
@@ -109,8 +110,9 @@ enum { SOJIMU_RUNNING = 0, SOJIMU_DEVICE_BLAMED = 1, SOJIMU_HOST_BLAMED = 2 };
 /* A step's outcome; of the last answer of a batch also that none was due. */
 enum { SOJIMU_FORWARDED = 0, SOJIMU_REFUSED = 1, SOJIMU_BLAMED = 2, SOJIMU_NONE_DUE = 3 };
 
-/* Why a sender is blamed: no such label; field count or kinds differ; a number outside its range. */
-enum { SOJIMU_NO_LABEL = 1, SOJIMU_OTHER_KINDS = 2, SOJIMU_OUT_OF_RANGE = 3 };
+/* Why a sender is blamed: no such label; field count or kinds differ; a number outside its range; under edition 2, a message out
+ * of turn, whatever else is wrong with it. */
+enum { SOJIMU_NO_LABEL = 1, SOJIMU_OTHER_KINDS = 2, SOJIMU_OUT_OF_RANGE = 3, SOJIMU_EARLY = 4 };
 
 /* A fit check's outcome. */
 enum { SOJIMU_FITS = 0, SOJIMU_FAILS = 1, SOJIMU_FIT_REFUSED = 2 };
@@ -126,8 +128,8 @@ enum { SOJIMU_NO_ESTIMATE = 65535 };
 /* A table: the first `states` sorts, and the first `branches` entries of owner (the state that a branch is of), target (the state
  * that it leads to), fields (their count), the label's two words (its eight bytes, filled up with 0x00, high byte first) and the
  * share in thousandths (0: none). Field f of branch b stands at 4 * b + f: its kind, and the range of its number in offset form.
- * What lies beyond is not looked at, and `reserved` never is; both are 0 in a table that was read. Any word may have any value:
- * question 9 tells a table. */
+ * The edition is 1 or 2, and 1 where the text names none. What lies beyond is not looked at, and `reserved` never is; both are 0
+ * in a table that was read. Any word may have any value: question 9 tells a table. */
 struct sojimu_table {
     uint32_t states, branches;
     uint32_t sort[32];
@@ -135,7 +137,7 @@ struct sojimu_table {
     uint32_t label_high[128], label_low[128];
     uint32_t kind[512], low[512], high[512];
     uint32_t share[128];
-    uint32_t reserved[2];
+    uint32_t edition, reserved;
 };
 
 /* What reading a text gives: question 0 and its table, `at` 0; or the question that got a no, the place of its token, and the
@@ -181,9 +183,9 @@ struct sojimu_turn {
     uint32_t question, side;
 };
 
-/* A step's verdict, or the last answer of a batch. refused: `question` is 9 to 16, of a batch 9, 10 or 16. blamed: `party` is
- * SOJIMU_DEVICE or SOJIMU_HOST, `reason` 1 to 3, and with reason 3 `field` is the first field (from 0) that is outside its range.
- * What does not apply is 0. */
+/* A step's verdict, or the last answer of a batch. refused: `question` is 9 to 16 or 22, of a batch 9, 10, 16 or 22. blamed:
+ * `party` is SOJIMU_DEVICE or SOJIMU_HOST, `reason` 1 to 4, of a batch 1 to 3, and with reason 3 `field` is the first field (from
+ * 0) that is outside its range. What does not apply is 0. */
 struct sojimu_verdict {
     uint8_t outcome, question, party, reason, field;
 };
@@ -230,7 +232,7 @@ SOJIMU_HOLDS(sizeof(struct sojimu_table) == 4 * 2340 && SOJIMU_AT(table, states,
 SOJIMU_HOLDS(SOJIMU_AT(table, sort, 4 * 2) && SOJIMU_AT(table, owner, 4 * 34) && SOJIMU_AT(table, target, 4 * 162));
 SOJIMU_HOLDS(SOJIMU_AT(table, fields, 4 * 290) && SOJIMU_AT(table, label_high, 4 * 418) && SOJIMU_AT(table, label_low, 4 * 546));
 SOJIMU_HOLDS(SOJIMU_AT(table, kind, 4 * 674) && SOJIMU_AT(table, low, 4 * 1186) && SOJIMU_AT(table, high, 4 * 1698));
-SOJIMU_HOLDS(SOJIMU_AT(table, share, 4 * 2210) && SOJIMU_AT(table, reserved, 4 * 2338));
+SOJIMU_HOLDS(SOJIMU_AT(table, share, 4 * 2210) && SOJIMU_AT(table, edition, 4 * 2338) && SOJIMU_AT(table, reserved, 4 * 2339));
 SOJIMU_HOLDS(sizeof(struct sojimu_reading) == 9368 && SOJIMU_AT(reading, question, 0) && SOJIMU_AT(reading, at, 4));
 SOJIMU_HOLDS(SOJIMU_AT(reading, table, 8));
 SOJIMU_HOLDS(sizeof(struct sojimu_told) == 8 && SOJIMU_AT(told, question, 0) && SOJIMU_AT(told, at, 4));
@@ -311,7 +313,7 @@ static inline bool sojimu_matches(void)
 
 /* ---- texts and tables */
 
-/* Reads a protocol text, which need not end in 0x00. Asks 1, then of each token from the left 2 to 6, 19, 7, 8 and 20. */
+/* Reads a protocol text, which need not end in 0x00. Asks 1, then of each token from the left 2, 3, 23, 4, 5, 6, 19, 7, 8, 20. */
 static inline struct sojimu_reading sojimu_read(const uint8_t *text, size_t length)
 {
     struct sojimu_reading reading;
@@ -340,7 +342,7 @@ bool sojimu_sound_at(const struct sojimu_table *table, uint32_t position);
 /* The table that a refusal gives back: all 0. It is not sound. */
 struct sojimu_table sojimu_empty(void);
 
-/* The dual: sending and receiving exchanged. Asks 9. */
+/* The dual: sending and receiving exchanged, under the same edition. Asks 9. */
 struct sojimu_turned sojimu_dual(const struct sojimu_table *table);
 
 /* Whether a table may have this label (eight bytes as one number, high byte first). */
@@ -476,17 +478,18 @@ struct sojimu_started sojimu_fresh(const struct sojimu_table *table, uint32_t se
 #pragma GCC diagnostic ignored "-Wshadow"
 #endif
 
-/* Whose turn it is. Asks 9, 10, 11. */
+/* Whose turn it is, under either edition. Asks 9, 10, 11. */
 static inline struct sojimu_turn sojimu_turn(const struct sojimu_table *table, const struct sojimu_state *state)
 {
     return sojimu_raw_turn(table, sojimu_place(state), sojimu_counts(state));
 }
 
-/* One step. `side` says who sends the message; any number but SOJIMU_DEVICE and SOJIMU_HOST is no side's turn. Asks 9, 10, 11,
- * 12, 13, 14, 15, 22, 16; on a refusal state and `out` are unchanged. Else the message is judged against the position's branches.
- * If one allows it, it is forwarded: its bytes open `out`, the rest of which is unchanged, the position moves on, and n of its
- * choice and k of its branch rise by one, unless n is 10,000. If none does, the sender is blamed, for ever: the standing says so,
- * and position, counts and `out` are unchanged. */
+/* One step. `side` says who sends the message; any number but SOJIMU_DEVICE and SOJIMU_HOST is no side's, and 12 refuses it under
+ * either edition. Asks 9, 10, 11, 12, 13, 14, 15, 22, 16, under edition 2 without 12; on a refusal state and `out` are unchanged.
+ * Else the message is judged: under edition 2 first whether it is its sender's turn, then against the position's branches. If one
+ * allows it, it is forwarded: its bytes open `out`, the rest of which is unchanged, the position moves on, and n of its choice
+ * and k of its branch rise by one, unless n is 10,000. If it is out of turn or none does, the sender is blamed, for ever: the
+ * standing says so, and position, counts and `out` are unchanged. */
 static inline struct sojimu_verdict sojimu_step(const struct sojimu_table *table, struct sojimu_state *state, uint32_t side,
                                                 const uint8_t *message, size_t length, uint8_t *out, size_t room)
 {
@@ -494,12 +497,13 @@ static inline struct sojimu_verdict sojimu_step(const struct sojimu_table *table
                            sojimu_lent(out, room), room);
 }
 
-/* A batch: takes the due messages of the bytes that wait on either side, in turn, each by a step, until none is due, a step refuses
- * or a blame falls. The device's messages go to `to_host`, the host's to `to_device`, one behind the other. Asks 9 and 10, and on
- * a refusal by them nothing is changed. All that it does is what sojimu_due and sojimu_step do one after another, each step given
- * what is left of its output; but 9 is asked once. A step that 16 refuses changes nothing, and its bytes are not used: make room,
- * and call again with the rest. Nor are those of a message that 22 refuses, and every further batch stops there too: drop it (its
- * length is sojimu_front's), or close the line. Either way the first used_.. bytes of a side are done with, and the others wait. */
+/* A batch: takes the due messages of the bytes that wait on either side, in turn, each by a step, until none is due, a step
+ * refuses or a blame falls. The device's messages go to `to_host`, the host's to `to_device`, one behind the other. What comes
+ * early waits, under either edition: it is not due, and nobody is blamed for it here. Asks 9 and 10, and on a refusal by them
+ * nothing is changed. All that it does is what sojimu_due and sojimu_step do one after another, each step given what is left of
+ * its output; but 9 is asked once. A step that 16 refuses changes nothing, and its bytes are not used: make room, and call again
+ * with the rest. Nor are those of a message that 22 refuses, and every further batch stops there too: drop it (its length is
+ * sojimu_front's), or close the line. Either way the first used_.. bytes of a side are done with, and the others wait. */
 static inline struct sojimu_batch sojimu_batch(const struct sojimu_table *table, struct sojimu_state *state, const uint8_t *device,
                                                size_t device_length, const uint8_t *host, size_t host_length,
                                                uint8_t *to_device, size_t device_room, uint8_t *to_host, size_t host_room)
@@ -509,9 +513,9 @@ static inline struct sojimu_batch sojimu_batch(const struct sojimu_table *table,
                             sojimu_lent(to_host, host_room), host_room);
 }
 
-/* The due message, from the bytes that wait on either side: the first message of the side whose turn it is, cut by its length: 22
- * is not asked. Length 0 when 13 or 14 would refuse or the message is not all there; side SOJIMU_DEVICE and length 0 when 9, 10 or
- * 11 would, of which sojimu_turn tells the number. */
+/* The due message, from the bytes that wait on either side: the first message of the side whose turn it is, under either edition,
+ * cut by its length: 22 is not asked. Length 0 when 13 or 14 would refuse or the message is not all there; side SOJIMU_DEVICE and
+ * length 0 when 9, 10 or 11 would, of which sojimu_turn tells the number. */
 static inline struct sojimu_due sojimu_due(const struct sojimu_table *table, const struct sojimu_state *state,
                                            const uint8_t *device, size_t device_length, const uint8_t *host, size_t host_length)
 {
@@ -530,11 +534,12 @@ static inline struct sojimu_warning sojimu_warning(const struct sojimu_table *ta
 }
 
 /* Whether a described device fits a protocol: no list of moves ends with the device blamed or the two stuck. Asks 9 of the
- * device, 9 of the protocol, 17 of the list (1,024 entries are always enough). Where it fails, the list begins with moves
- * that show it, each the speaker's branch number (the device's table for the device, the protocol's for the host), every number
- * low, in the last move one field perhaps high. They are the fewest: every list of moves that ends with the device blamed or
- * the two stuck, moves that change nothing included, has at least as many; and the same tables have the same list. The rest of
- * the list is unchanged; where it fits or is refused, the whole list is. */
+ * device, 9 of the protocol, 17 of the list (1,024 entries are always enough). Where it fails, the list begins with moves that
+ * show it, each the speaker's branch number (the device's table for the device, the protocol's for the host), every number low,
+ * in the last move one field perhaps high. They are the fewest: every list of moves that ends with the device blamed or the two
+ * stuck, moves that change nothing included, has at least as many; and the same tables have the same list. The conversation is
+ * held under the protocol's edition, whatever the device's is, and the answer is the same under both. The rest of the list is
+ * unchanged; where it fits or is refused, the whole list is. */
 static inline struct sojimu_fit sojimu_fit(const struct sojimu_table *device, const struct sojimu_table *protocol, uint16_t *list,
                                            size_t room)
 {

@@ -6,6 +6,7 @@ use std::io::{self, Write};
 const PROTOCOL: &[u8] = b"rec X.+{!Ask(int[0..100])@100.&{?Ok().X},!Quit()@900.end}";
 const DEVICE: &[u8] = b"rec X.+{!Ask(int[0..50]).&{?Ok().X,?Busy().X}}";
 const OTHER: &[u8] = b"rec X.+{!Ask(int[0..200]).&{?Ok().X}}";
+const SECOND: &[u8] = b"edition 2 rec X.+{!Ask(int[0..100]).&{?Ok().X},!Quit().end}";
 
 /// The bytes that may wait on a side: a scan's worth. Room for the longest message is enough.
 pub const WAITING: usize = 24 * LONGEST_MESSAGE;
@@ -67,6 +68,10 @@ pub fn run(log: &mut dyn Write) -> io::Result<()> {
     // One that names a grade in another encoding.
     let mut encoded = Conversation::begin(&protocol);
     assert!(!hear(&protocol, &mut encoded, Party::Device, b"Grade\0\0\0\x01\x01\0\0\0\x01\xE4", log)?);
+    // The second edition, under which the host may not be early.
+    let second = Table::read(SECOND).expect("the protocol under edition 2");
+    let mut strict = Conversation::begin(&second);
+    assert!(!hear(&second, &mut strict, Party::Host, b"Ok\0\0\0\0\0\0\0", log)?);
     Ok(())
 }
 
@@ -128,9 +133,11 @@ fn pump(protocol: &Table, talk: &mut Conversation, log: &mut dyn Write) -> io::R
         talk.host.drain(..batch.used_host);
         pass_on(Party::Device, &to_host[..batch.written_to_host], log)?;
         pass_on(Party::Host, &to_device[..batch.written_to_device], log)?;
-        match batch.last {
-            // An output was full. What it held is passed on, so it has room again.
-            Some(Verdict::Refused(Question(16))) => {}
+        // An output was full. What it held is passed on, so it has room again.
+        if batch.last == Some(Verdict::Refused(Question(16))) {
+            continue;
+        }
+        match early(protocol, talk).or(batch.last) {
             Some(Verdict::Blamed(party, reason)) => {
                 writeln!(log, "{party:?} blamed, reason {}", reason.number())?;
                 return Ok(false);
@@ -142,6 +149,22 @@ fn pump(protocol: &Table, talk: &mut Conversation, log: &mut dyn Write) -> io::R
             }
         }
     }
+}
+
+/// Under edition 2 who speaks out of turn is blamed: a whole message that a batch leaves on the side whose turn it is not is put to a
+/// step. Gives its verdict where it blames.
+fn early(protocol: &Table, talk: &mut Conversation) -> Option<Verdict> {
+    if protocol.edition != 2 {
+        return None;
+    }
+    let Conversation { state, device, host } = talk;
+    let (side, waiting) = match protocol.turn(state).ok()? {
+        Party::Device => (Party::Host, host),
+        Party::Host => (Party::Device, device),
+    };
+    let message = waiting.get(..message::front(waiting).ok()?)?;
+    let verdict = protocol.step(state, side, message, &mut [0; LONGEST_MESSAGE]);
+    matches!(verdict, Verdict::Blamed(..)).then_some(verdict)
 }
 
 /// The tender's page, after each round: which branches are picked far too often or too seldom for their shares.

@@ -1,4 +1,4 @@
-//! Every example of document 01, and those of the requests in document 02 that are built; of requests 4, 5 and 6 every sentence,
+//! Every example of document 01, and those of the requests in document 02 that are built; of requests 4, 5, 6 and 7 every sentence,
 //! through both implementations.
 
 use sojimu::compare::{self, party, state_codes};
@@ -1121,6 +1121,205 @@ fn a_move_is_a_well_formed_message() {
     let nope = of(Side::Host, says(b"Nope", b"?"));
     let (left, _) = machine::play_all(&table(text), &table(text), &[moves[1].clone(), nope]);
     assert_eq!(left.standing, machine::Standing::HostBlamed);
+}
+
+// Document 02, request 7: edition two and the early message
+
+/// A text under each edition: by its opening, and without one, which is 1.
+fn editions(text: &str) -> [(String, u32); 3] {
+    [(text.to_string(), 1), (format!("edition 1 {text}"), 1), (format!("edition 2 {text}"), 2)]
+}
+
+/// The edition of a text, or the refusal, as both have it.
+fn edition(text: &[u8]) -> Result<u32, (u8, usize)> {
+    let second = read(text).map(|table| table.edition);
+    let proved = sojimu::Table::read(text).map(|table| table.edition).map_err(|no| (no.question.0, no.at));
+    assert_eq!(proved, second);
+    second
+}
+
+#[test]
+fn a_text_may_open_with_its_edition() {
+    for text in ["end", "rec X.+{!A().X}", "+{!A()@1000.end}"] {
+        for (opened, number) in editions(text) {
+            assert_eq!(edition(opened.as_bytes()), Ok(number), "{opened}");
+            // But for the edition it is the same table.
+            assert_eq!(Table { edition: 1, ..table(opened.as_bytes()) }, table(text.as_bytes()));
+        }
+    }
+    assert_eq!(edition(b"edition 2end"), Ok(2));
+    assert_eq!(edition(b"\n edition\n\n1 end "), Ok(1));
+    // Question 2 knows the word alone, and numbers are as they were.
+    assert_eq!(edition(b"edition1 end"), Err((2, 0)));
+    assert_eq!(edition(b"edition 02 end"), Err((2, 8)));
+    assert_eq!(edition(b"Edition 2 end"), Err((4, 0)));
+    // The grammar has it at the opening, once, with its number, and a type after it.
+    assert_eq!(edition(b"edition end"), Err((3, 8)));
+    assert_eq!(edition(b"edition"), Err((3, 7)));
+    assert_eq!(edition(b"edition 2"), Err((3, 9)));
+    assert_eq!(edition(b"edition 2 edition 2 end"), Err((3, 10)));
+    assert_eq!(edition(b"rec X.edition 2 end"), Err((3, 6)));
+    assert_eq!(edition(b"end edition 2"), Err((3, 4)));
+}
+
+#[test]
+fn any_other_edition_number_is_23() {
+    let digits = "1".repeat(5000);
+    for number in ["0", "3", "-1", "-2", "12", "21", "4294967297", "18446744073709551618", &digits] {
+        assert_eq!(edition(format!("edition {number} end").as_bytes()), Err((23, 8)), "{number}");
+        // Ahead of what is asked at the tokens behind it.
+        assert_eq!(edition(format!("edition {number} rec X.X").as_bytes()), Err((23, 8)), "{number}");
+    }
+    assert_eq!(edition(b"edition 2 rec X.X"), Err((5, 16)));
+}
+
+#[test]
+fn question_9_asks_for_the_edition() {
+    for (number, sound) in [(0, false), (1, true), (2, true), (3, false), (0x101, false), (u32::MAX, false)] {
+        let raw = Raw { edition: number, ..Raw::of(&table(P)) };
+        let proved = sojimu::Table::from(&raw);
+        assert_eq!((raw.sound(), proved.sound(), proved.sound_at(2)), (sound, sound, sound), "{number}");
+        let question = if sound { None } else { Some(Question(9)) };
+        let begun = sojimu::Table::from(&Raw::of(&table(P))).fresh(200).unwrap();
+        assert_eq!((proved.dual().err(), proved.fresh(200).err()), (question, question));
+        assert_eq!((proved.turn(&begun).err(), proved.make(1, None, &mut [0; 9]).err()), (question, question));
+        let mut list = [7; 9];
+        let fits = question.map_or(sojimu::Fitting::Fits { pairs: 3 }, sojimu::Fitting::Refused);
+        assert_eq!((proved.fit(&proved, &mut list), list), (fits, [7; 9]));
+    }
+    let dual = dual(&table(b"edition 2 +{!A().end}")).unwrap();
+    assert_eq!(dual, table(b"edition 2 &{?A().end}"));
+    assert_eq!(sojimu::Table::read(b"edition 2 +{!A().end}").unwrap().dual().unwrap().edition, 2);
+}
+
+/// P under edition 2, after some Asks and Oks.
+fn second_edition(messages: &[&[u8]]) -> Talk {
+    let mut talk = Talk::begin(&format!("edition 2 {}", String::from_utf8_lossy(P)), 200).unwrap();
+    for (i, message) in messages.iter().enumerate() {
+        assert_eq!(talk.say(if i % 2 == 0 { Side::Device } else { Side::Host }, message), Verdict::Forwarded);
+    }
+    talk
+}
+
+#[test]
+fn under_2_an_early_message_blames_its_sender() {
+    let ok = bare(b"Ok");
+    let mut talk = second_edition(&[]);
+    assert_eq!(talk.say(Side::Host, &ok), Verdict::Blamed(Side::Host, Reason::Early));
+    assert_eq!(Reason::Early.number(), 4);
+    // For ever, and nothing was counted.
+    assert_eq!(talk.state, at(&talk.second, 0, Standing::HostBlamed));
+    assert_eq!(talk.say(Side::Device, &ASK_100), Verdict::Refused(10));
+    let mut talk = second_edition(&[&ASK_100, &ok, &ASK_100]);
+    let before = talk.state;
+    assert_eq!(talk.say(Side::Device, &ASK_100), Verdict::Blamed(Side::Device, Reason::Early));
+    assert_eq!(talk.state, State { standing: Standing::DeviceBlamed, ..before });
+    // Under 1 it is 12 still.
+    let mut talk = Talk::begin("edition 1 +{!A().&{?B().end}}", 200).unwrap();
+    assert_eq!(talk.say(Side::Host, &bare(b"B")), Verdict::Refused(12));
+}
+
+#[test]
+fn reason_4_is_ahead_of_the_others() {
+    // What the other side may say; reasons 1, 2 and 3.
+    for message in [&ASK_100[..], &bare(b"Quit"), &bare(b"Nope"), &bare(b"Ask"), &ask(101)] {
+        assert_eq!(second_edition(&[]).say(Side::Host, message), Verdict::Blamed(Side::Host, Reason::Early));
+    }
+    // In turn all is as under 1.
+    let judged = |message: &[u8]| second_edition(&[]).say(Side::Device, message);
+    assert_eq!(judged(&bare(b"Ok")), Verdict::Blamed(Side::Device, Reason::Label));
+    assert_eq!(judged(&bare(b"Ask")), Verdict::Blamed(Side::Device, Reason::Kinds));
+    assert_eq!(judged(&ask(101)), Verdict::Blamed(Side::Device, Reason::Range(0)));
+    assert_eq!(judged(&ASK_100), Verdict::Forwarded);
+}
+
+#[test]
+fn step_12_gives_way_to_the_message_questions_and_16() {
+    let early = |message: &[u8], room: usize| {
+        let mut talk = second_edition(&[&ASK_100]);
+        let (mut codes, mut out) = (state_codes(&talk.state), vec![0xEE; room]);
+        let told = talk.proved.step(&mut codes, sojimu::Party::Device, message, &mut out);
+        let verdict = step(&talk.second, &mut talk.state, Side::Device, message, &mut vec![0; room]);
+        assert_eq!((told, codes, out), (compare::verdict(verdict), state_codes(&talk.state), vec![0xEE; room]));
+        verdict
+    };
+    let broken = saying(b"Say", &[b"\xFF"]);
+    assert_eq!(early(b"", 0), Verdict::Refused(13));
+    assert_eq!(early(b"Ask\0\0\0\0\0\x01\x03\0\0\0\0", 0), Verdict::Refused(14));
+    assert_eq!(early(b"Ask\0\0\0\0\0\x01\0\0\0\0\0\0", 0), Verdict::Refused(15));
+    assert_eq!(early(&broken, broken.len() - 1), Verdict::Refused(22));
+    assert_eq!(early(&ASK_100, 13), Verdict::Refused(16));
+    assert_eq!(early(&ASK_100, 14), Verdict::Blamed(Side::Device, Reason::Early));
+    // 9, 10 and 11 come before all of them; at an end nobody is early.
+    let mut talk = second_edition(&[&bare(b"Quit")]);
+    assert_eq!(talk.say(Side::Host, b""), Verdict::Refused(11));
+    assert_eq!(talk.say(Side::Host, &bare(b"Ok")), Verdict::Refused(11));
+    talk.state.n[0] = 7;
+    assert_eq!(talk.say(Side::Host, &bare(b"Ok")), Verdict::Refused(9));
+}
+
+#[test]
+fn an_early_message_is_not_due() {
+    let ok = bare(b"Ok");
+    let mut talk = second_edition(&[]);
+    assert_eq!(due(&talk.second, &talk.state, b"", &ok), Part { side: Side::Device, length: 0 });
+    let none = Batch { used_device: 0, used_host: 0, written_to_device: 0, written_to_host: 0, last: None };
+    assert_eq!(talk.batch(&ASK_100[..13], &ok.repeat(2)), none);
+    let two =
+        Batch { used_device: 14, used_host: 9, written_to_device: 9, written_to_host: 14, last: Some(Verdict::Forwarded) };
+    // The second Ok waits, and who takes it by a step blames the host.
+    assert_eq!(talk.batch(&ASK_100, &ok.repeat(2)), two);
+    assert_eq!(talk.say(Side::Host, &ok), Verdict::Blamed(Side::Host, Reason::Early));
+    assert_eq!(talk.batch(&ASK_100, &ok).last, Some(Verdict::Refused(10)));
+}
+
+#[test]
+fn the_machine_blames_the_host_likewise() {
+    use machine::Standing::{HostBlamed, Running};
+    use Side::{Device, Host};
+    for ((protocol, number), early) in editions("+{!A().&{?B().end}}").into_iter().zip([Running, Running, HostBlamed]) {
+        for (device, _) in editions("+{!A().&{?B().end}}") {
+            let (device, protocol) = (device.as_bytes(), protocol.as_bytes());
+            // Whichever message it is, out of turn; the device's edition is not looked at.
+            for branch in [0, 1] {
+                assert_eq!(played(device, protocol, &[(Host, protocol, branch, None)]), (early, vec![false]), "{number}");
+            }
+            // The device never speaks out of turn: the move changes nothing.
+            let moves = [(Device, device, 0, None), (Device, device, 0, None), (Host, protocol, 1, None)];
+            assert_eq!(played(device, protocol, &moves), (Running, vec![true, false, true]));
+            // At an end a host move still changes nothing.
+            let moves = [(Device, device, 0, None), (Host, protocol, 1, None), (Host, protocol, 1, None)];
+            assert_eq!(played(device, protocol, &moves), (Running, vec![true, true, false]));
+        }
+    }
+    let end = table(b"edition 2 end");
+    let (left, _) = machine::play_all(&end, &end, &[Move { side: Host, message: message::made(&table(P).branches[1], None) }]);
+    assert_eq!(left.standing, Running);
+}
+
+#[test]
+fn fit_looks_at_the_protocols_edition_only() {
+    let pairs =
+        [("end", "rec X.+{!A().X}"), ("+{!A(int[0..9]).end}", "+{!A(int[0..8]).end}"), ("&{?A().end}", "&{?A().end,?B().end}")];
+    for (device, protocol) in pairs {
+        let wanted = shown(device, protocol);
+        for (device, _) in editions(device) {
+            for (protocol, _) in editions(protocol) {
+                assert_eq!(shown(&device, &protocol), wanted);
+                let told = sojimu::report(protocol.as_bytes(), device.as_bytes());
+                assert_eq!(told, report(protocol.as_bytes(), device.as_bytes()));
+            }
+        }
+    }
+    // A device that passes is never blamed or jammed, under either.
+    for (device, _) in editions(&String::from_utf8_lossy(PINGS)) {
+        for (protocol, _) in editions(&String::from_utf8_lossy(PINGS)) {
+            let (device, protocol) = (table(device.as_bytes()), table(protocol.as_bytes()));
+            assert_eq!(fit(&device, &protocol, &mut [0; 9]), Answer::Fits(3));
+            let found = explore(&device, &protocol);
+            assert!(found.safe && found.pairs == 3);
+        }
+    }
 }
 
 // Device and monitor together

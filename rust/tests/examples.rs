@@ -1,4 +1,5 @@
-//! What `../examples/README.md` states: the reports, through the second implementation, and the pages of a log, through both.
+//! What `../examples/README.md` states: the reports, through the second implementation, and the pages of a log and what an edition
+//! changes, through both.
 //!
 //! An example is an indented line `$ ./sojimu PROTOCOL DEVICE`; the indented lines below it are the report. The pages are the
 //! one block of text.
@@ -7,8 +8,10 @@
 #[path = "../examples/page.rs"]
 mod page;
 
+use sojimu::compare;
 use sojimu::second::report::report;
 use sojimu::second::{message, monitor, text, warning};
+use sojimu::{Party, Question, Reason, Standing, Table, Verdict};
 use std::path::{Path, PathBuf};
 
 struct Example {
@@ -51,7 +54,7 @@ fn reports() {
 fn every_device_is_stated() {
     let stated = stated();
     let mut devices = 0;
-    for folder in ["scanner", "steambox", "spray", "shares"] {
+    for folder in ["scanner", "steambox", "spray", "shares", "editions"] {
         for file in std::fs::read_dir(root().join("examples").join(folder)).unwrap() {
             let path = file.unwrap().path();
             if path.file_name().unwrap() != "protocol.txt" && path.extension().unwrap() == "txt" {
@@ -115,4 +118,35 @@ fn pages_by_the_second_implementation() {
         );
     }
     assert_eq!(stated.lines().count(), lines.len());
+}
+
+/// The messages of the branches named, one after another, each by its side: what both say of the last.
+fn last_of(protocol: &[u8], says: &[(Party, &str)]) -> (Verdict, Standing) {
+    let (table, second) = (Table::read(protocol).unwrap(), text::read(protocol).unwrap());
+    let (mut state, mut again) = (table.fresh(200).unwrap(), monitor::State::fresh(&second, 200).unwrap());
+    let mut last = None;
+    for (party, label) in says {
+        let branch = second.branches.iter().position(|branch| branch.label.starts_with(label.as_bytes())).unwrap();
+        let mut message = vec![0; 300];
+        let length = table.make(branch as u32, None, &mut message).unwrap();
+        let side = if *party == Party::Device { monitor::Side::Device } else { monitor::Side::Host };
+        let verdict = table.step(&mut state, *party, &message[..length], &mut [0; 300]);
+        let wanted = monitor::step(&second, &mut again, side, &message[..length], &mut [0; 300]);
+        assert_eq!((verdict, state), (compare::verdict(wanted), compare::state_codes(&again)));
+        last = Some(verdict);
+    }
+    (last.unwrap(), state.standing)
+}
+
+#[test]
+fn a_setpoint_out_of_turn() {
+    let protocol = std::fs::read_to_string(root().join("examples/editions/protocol.txt")).unwrap();
+    let first = protocol.replace("edition 2", "edition 1");
+    let mut says = vec![(Party::Device, "Status"), (Party::Host, "Set"), (Party::Host, "Set")];
+    let blamed = (Verdict::Blamed(Party::Host, Reason::Early), Standing::HOST_BLAMED);
+    assert_eq!(last_of(protocol.as_bytes(), &says), blamed);
+    assert_eq!(last_of(first.as_bytes(), &says), (Verdict::Refused(Question(12)), Standing::RUNNING));
+    // In its turn it is forwarded.
+    says.extend([(Party::Device, "Done"), (Party::Device, "Status"), (Party::Host, "Set")]);
+    assert_eq!(last_of(first.as_bytes(), &says), (Verdict::Forwarded, Standing::RUNNING));
 }

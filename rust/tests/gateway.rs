@@ -82,6 +82,21 @@ fn an_output_that_is_full_is_passed_on() {
 }
 
 #[test]
+fn under_edition_2_who_is_early_is_blamed() {
+    let second = [b"edition 2 ", SAYS].concat();
+    let said = [b"Say\0\0\0\0\0\x01\x01\0\0\0\x03".as_slice(), "€".as_bytes()].concat();
+    for piece in [1, 9, 17, 100] {
+        let blamed = ("Host blamed, reason 4\n".to_string(), false);
+        assert_eq!(heard(&second, Party::Host, &said.repeat(2), piece), blamed);
+        // What is not all there yet, or no message, waits, as all does under edition 1.
+        assert_eq!(heard(&second, Party::Host, &said[..16], piece), (String::new(), true));
+        assert_eq!(heard(&second, Party::Host, b"GET / HTTP", piece), (String::new(), true));
+        assert_eq!(heard(SAYS, Party::Host, &said.repeat(2), piece), (String::new(), true));
+        assert_eq!(heard(&second, Party::Device, &said.repeat(2), piece).1, true);
+    }
+}
+
+#[test]
 fn a_broken_text_closes_the_line() {
     let said = |text: &[u8]| [b"Say\0\0\0\0\0\x01\x01\0\0\0\x03", text].concat();
     let whole = said("€".as_bytes());

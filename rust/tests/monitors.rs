@@ -25,7 +25,7 @@ fn begun(lists: &table::Table) -> monitor::State {
 
 #[test]
 fn the_plain_monitor() {
-    let mut broken = 0;
+    let (mut broken, mut early) = (0, 0);
     for seed in 0..400 {
         let mut random = Random::new(seed);
         let (states, branches) = *random.pick(&[(4, 6), (12, 20), (32, 128)]);
@@ -44,6 +44,7 @@ fn the_plain_monitor() {
             assert_eq!((one, out), (verdict(wanted), other), "seed {seed}");
             assert_eq!(state, state_codes(&second), "seed {seed}");
             broken += usize::from(wanted == monitor::Verdict::Refused(22));
+            early += usize::from(wanted == monitor::Verdict::Blamed(turn.side, monitor::Reason::Early));
             let (device, host) = (waiting(&mut random, &lists), waiting(&mut random, &lists));
             let part = monitor::due(&lists, &second, &device, &host);
             let due = plain::due(&table, &state, &device, &host);
@@ -62,8 +63,8 @@ fn the_plain_monitor() {
         }
         assert!(!plain::sound(&Table::from(&any_raw(&mut random))), "seed {seed}");
     }
-    println!("refused by 22 {broken}");
-    assert!(broken > 20);
+    println!("refused by 22 {broken}, early {early}");
+    assert!(broken > 20 && early > 20);
 }
 
 #[test]

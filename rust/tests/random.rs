@@ -6,7 +6,7 @@ use sojimu::second::brute::explore;
 use sojimu::second::fit::{fit, right, shows_no_fit, Answer};
 use sojimu::second::machine::{fresh, play, saying, says, Move};
 use sojimu::second::mistaken::{depth_first, sorts_late};
-use sojimu::second::monitor::{due, judge, state_sound, step, turn, Side, Standing, State, Verdict, MOST_COUNTED};
+use sojimu::second::monitor::{due, judge, state_sound, step, turn, Reason, Side, Standing, State, Verdict, MOST_COUNTED};
 use sojimu::second::random::*;
 use sojimu::second::report::report;
 use sojimu::second::shortest::{search, Way};
@@ -14,7 +14,7 @@ use sojimu::second::substituted::{means, refused};
 use sojimu::second::table::{dual, sound, Kind, Raw, Sort, Table};
 use sojimu::second::tree::{split, tree};
 use sojimu::second::warning::warning;
-use sojimu::second::{message, text};
+use sojimu::second::{machine, message, text};
 
 /// How many of each; more with the variable `ROUNDS`.
 fn rounds(usual: u64) -> u64 {
@@ -96,7 +96,7 @@ fn one_target_moved(random: &mut Random, table: &Table) -> Option<Table> {
 
 #[test]
 fn texts_of_any_sort() {
-    let mut counts = [0; 21];
+    let mut counts = [0; 24];
     for seed in 0..rounds(20_000) {
         let text = any_text(&mut Random::new(seed));
         match text::read(&text) {
@@ -112,7 +112,7 @@ fn texts_of_any_sort() {
         }
     }
     println!("read, and refused by their numbers: {counts:?}");
-    assert!([0, 1, 2, 3, 4, 5, 6, 7, 8, 19, 20].into_iter().all(|question| counts[question] > 20), "{counts:?}");
+    assert!([0, 1, 2, 3, 4, 5, 6, 7, 8, 19, 20, 23].into_iter().all(|question| counts[question] > 20), "{counts:?}");
 }
 
 #[test]
@@ -331,7 +331,7 @@ fn begun(table: &Table) -> State {
 #[test]
 fn conversations() {
     let mut refused = [0; 23];
-    let mut blamed = [[0; 4]; 2];
+    let mut blamed = [[0; 5]; 2];
     let mut forwarded = 0;
     for seed in 0..rounds(600) {
         let mut random = Random::new(seed);
@@ -597,6 +597,97 @@ fn the_fit_check_and_the_machine() {
     }
     println!("fitting {fitting}, failing {failing}, by at most {moves_at_most} moves, with one high {highs}");
     assert!(fitting > 500 && failing > 500 && moves_at_most > 2 && highs > 20);
+}
+
+#[test]
+fn editions_differ_out_of_turn_only() {
+    let (mut same, mut early, mut refused) = (0, 0, [0; 23]);
+    for seed in 0..rounds(20_000) {
+        let mut random = Random::new(seed);
+        let one = Table { edition: 1, ..sound_table(&mut random, 6, 12) };
+        let two = Table { edition: 2, ..one.clone() };
+        let position = random.below(one.states.len());
+        let before = state_at(&mut random, &one, position);
+        let (side, message) = (*random.pick(&Side::BOTH), message_for(&mut random, &one, position));
+        let room = if random.one_in(6) { random.below(message.len() + 1) } else { message.len() };
+        let stepped = |table: &Table| {
+            let (mut state, mut output) = (before, vec![0xEE; room]);
+            (step(table, &mut state, side, &message, &mut output), state, output)
+        };
+        let (first, second) = (stepped(&one), stepped(&two));
+        if turn(one.states[position]).is_none_or(|speaker| speaker == side) {
+            same += 1;
+            assert_eq!(first, second, "seed {seed}");
+            continue;
+        }
+        let untouched = vec![0xEE; room];
+        assert_eq!(first, (Verdict::Refused(12), before, untouched.clone()), "seed {seed}");
+        match second.0 {
+            Verdict::Refused(question) => {
+                refused[usize::from(question)] += 1;
+                assert_eq!(second, (Verdict::Refused(question), before, untouched), "seed {seed}");
+            }
+            verdict => {
+                early += 1;
+                let standing = if side == Side::Device { Standing::DeviceBlamed } else { Standing::HostBlamed };
+                assert_eq!(verdict, Verdict::Blamed(side, Reason::Early), "seed {seed}");
+                assert_eq!(second, (verdict, State { standing, ..before }, untouched), "seed {seed}");
+            }
+        }
+    }
+    println!("the same {same}, early {early}, refused {refused:?}");
+    assert!(same > 1000 && early > 1000 && [13, 14, 15, 16, 22].into_iter().all(|question| refused[question] > 20));
+}
+
+/// On the machine the host says anything, the device what its state has; the protocol half does what a step does, and under either
+/// edition a device that fits is never blamed or jammed.
+#[test]
+fn the_machine_and_the_step_under_either_edition() {
+    let (mut fitting, mut failing, mut blamed) = (0, 0, [0; 3]);
+    for seed in 0..rounds(5000) {
+        let mut random = Random::new(seed);
+        let (device, protocol) = table_pair(&mut random, 5, 7);
+        let found = |edition| explore(&device, &Table { edition, ..protocol.clone() });
+        assert_eq!(found(1), found(2), "seed {seed}");
+        let safe = found(1).safe;
+        *(if safe { &mut fitting } else { &mut failing }) += 1;
+        let (mut machine, mut state) = (fresh(&device, &protocol), begun(&protocol));
+        for _ in 0..20 {
+            let side = *random.pick(&Side::BOTH);
+            let (table, at) = if side == Side::Device { (&device, machine.device) } else { (&protocol, machine.position) };
+            let own = table.branches_of(at);
+            let says = if own.is_empty() || (side == Side::Host && random.one_in(4)) {
+                any_message(&mut random)
+            } else {
+                let branch = *random.pick(&own);
+                spoken(&mut random, &table.branches[branch])
+            };
+            let one = Move { side, message: says };
+            let speaks = side == Side::Host || device.states[machine.device] == Sort::Sends;
+            if machine.standing != machine::Standing::Running || !speaks || (side == Side::Device && own.is_empty()) {
+                continue;
+            }
+            let (left, forwarded) = play(&device, &protocol, machine, &one);
+            let verdict = step(&protocol, &mut state, side, &one.message.bytes(), &mut [0; 300]);
+            let wanted = match (left.standing, forwarded) {
+                (machine::Standing::HostBlamed, _) => matches!(verdict, Verdict::Blamed(Side::Host, _)),
+                (machine::Standing::DeviceBlamed, _) => matches!(verdict, Verdict::Blamed(Side::Device, _)),
+                (machine::Standing::Running, false) => matches!(verdict, Verdict::Refused(11 | 12)),
+                _ => verdict == Verdict::Forwarded,
+            };
+            assert!(wanted, "seed {seed}: {left:?}, {verdict:?}");
+            let early = verdict == Verdict::Blamed(Side::Host, Reason::Early);
+            assert!(!early || protocol.edition == 2);
+            assert!(
+                !safe || matches!(left.standing, machine::Standing::Running | machine::Standing::HostBlamed),
+                "seed {seed}"
+            );
+            blamed[if early { 2 } else { usize::from(left.standing == machine::Standing::HostBlamed) }] += 1;
+            machine = left;
+        }
+    }
+    println!("fitting {fitting}, failing {failing}; nobody, the host, the host early: {blamed:?}");
+    assert!(fitting > 500 && failing > 500 && blamed.iter().all(|&count| count > 100));
 }
 
 #[test]

@@ -3,7 +3,7 @@
  * for each check that fails, and at the end `N passed, M failed`. */
 #include "check.h"
 
-static struct sojimu_table p, broken_table;
+static struct sojimu_table p, broken_table, second_edition;
 
 static const struct sojimu_state START = STATE(0, SOJIMU_RUNNING);
 
@@ -129,6 +129,7 @@ GIVES(give_made_refused, sojimu_made, sojimu_make(&p, 7, 0, out, ROOM))
 GIVES(give_forwarded, sojimu_verdict, sojimu_step(&p, &s, SOJIMU_DEVICE, ASK_100, sizeof ASK_100, out, ROOM))
 GIVES(give_refused, sojimu_verdict, sojimu_step(&p, &s, SOJIMU_HOST, ASK_100, sizeof ASK_100, out, ROOM))
 GIVES(give_blamed, sojimu_verdict, sojimu_step(&p, &s, SOJIMU_DEVICE, (const uint8_t *)"No\0\0\0\0\0\0", 9, out, ROOM))
+GIVES(give_early, sojimu_verdict, sojimu_step(&second_edition, &s, SOJIMU_HOST, ASK_100, sizeof ASK_100, out, ROOM))
 GIVES(give_warning, sojimu_warning, sojimu_warning(&p, &s, 2))
 GIVES(give_warning_refused, sojimu_warning, sojimu_warning(&p, &s, 3))
 GIVES(give_turn, sojimu_turn, sojimu_turn(&p, &s))
@@ -142,6 +143,7 @@ GIVES(give_fails, sojimu_fit, sojimu_fit(&broken_table, &p, list, SOJIMU_LIST))
 static void bytes_determined(void)
 {
     broken_table = table_of("+{!Ask(int[0..101]).end}");
+    second_edition = table_of("edition 2 +{!Ask(int[0..100]).end}");
     CHECK(determined(give_read, sizeof(struct sojimu_reading)));
     CHECK(determined(give_read_refused, sizeof(struct sojimu_reading)));
     CHECK(determined(give_dual, sizeof(struct sojimu_turned)));
@@ -158,6 +160,7 @@ static void bytes_determined(void)
     CHECK(determined(give_forwarded, sizeof(struct sojimu_verdict)));
     CHECK(determined(give_refused, sizeof(struct sojimu_verdict)));
     CHECK(determined(give_blamed, sizeof(struct sojimu_verdict)));
+    CHECK(determined(give_early, sizeof(struct sojimu_verdict)));
     CHECK(determined(give_batch, sizeof(struct sojimu_batch)));
     CHECK(determined(give_batch_full, sizeof(struct sojimu_batch)));
     CHECK(determined(give_batch_none_due, sizeof(struct sojimu_batch)));
@@ -284,7 +287,7 @@ static bool word_refused(size_t place, uint32_t value)
 static void any_words(void)
 {
     const size_t states = 0, branches = 1, sort = 2, owner = 34, target = 162, fields = 290, high_label = 418, low_label = 546;
-    const size_t kind = 674, low = 1186, high = 1698, share = 2210;
+    const size_t kind = 674, low = 1186, high = 1698, share = 2210, edition = 2338;
     struct sojimu_table t;
     mark();
     mark_list();
@@ -294,6 +297,7 @@ static void any_words(void)
         CHECK(word_refused(owner, WIDE[i]) && word_refused(target + 2, WIDE[i]) && word_refused(fields + 1, WIDE[i]));
         CHECK(word_refused(high_label, WIDE[i]) && word_refused(low_label, WIDE[i]) && word_refused(kind, WIDE[i]));
         CHECK(word_refused(share, WIDE[i]) && word_refused(share + 1, WIDE[i]) && word_refused(share + 2, WIDE[i]));
+        CHECK(word_refused(edition, WIDE[i]));
     }
     CHECK(word_refused(states, UINT32_C(4000000000)) && word_refused(states, 0) && word_refused(states, 33));
     CHECK(word_refused(states, 1) && word_refused(states, 2));
@@ -304,6 +308,7 @@ static void any_words(void)
     /* one of two branches with a share; a choice of one branch, with less than all, all, and more */
     CHECK(word_refused(share, 1) && word_refused(share, 1000) && word_refused(share + 2, 500));
     CHECK(word_refused(share + 1, 999) && word_refused(share + 1, 1001));
+    CHECK(word_refused(edition, 0) && word_refused(edition, 3));
     t = p;
     t.share[1] = 1000;
     CHECK(sojimu_sound(&t));
@@ -335,6 +340,7 @@ static void words_beyond(void)
     t.low[0] = p.low[0];
     t.high[0] = p.high[0];
     memcpy(t.share, p.share, 4 * 3);
+    t.edition = p.edition;
     mark();
     CHECK(sojimu_sound(&t) && sojimu_sound_at(&t, 2) && !sojimu_sound_at(&t, 3));
     CHECK(sojimu_dual(&t).question == 0 && sojimu_dual(&t).table.sort[0] == SOJIMU_RECEIVES);
@@ -474,7 +480,7 @@ static void encoder(void)
 int main(void)
 {
     p = table_of(P);
-    CHECK(sojimu_version() == 4 && SOJIMU_VERSION == 4 && sojimu_matches());
+    CHECK(sojimu_version() == 5 && SOJIMU_VERSION == 5 && sojimu_matches());
     bytes_determined();
     nothing();
     wide_numbers();

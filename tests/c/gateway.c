@@ -6,6 +6,7 @@
 static const char protocol_text[] = "rec X.+{!Ask(int[0..100])@100.&{?Ok().X},!Quit()@900.end}";
 static const char device_text[] = "rec X.+{!Ask(int[0..50]).&{?Ok().X,?Busy().X}}";
 static const char other_text[] = "rec X.+{!Ask(int[0..200]).&{?Ok().X}}";
+static const char second_text[] = "edition 2 rec X.+{!Ask(int[0..100]).&{?Ok().X},!Quit().end}";
 
 static const char *const names[] = {"Device", "Host"};
 
@@ -104,6 +105,20 @@ static struct sojimu_verdict take(const struct sojimu_table *protocol, struct co
     return batch.last;
 }
 
+/* Under edition 2 who speaks out of turn is blamed: a whole message that a batch leaves on the side whose turn it is not is put to a
+ * step. Gives its verdict where it blames, else the last answer. */
+static struct sojimu_verdict early(const struct sojimu_table *protocol, struct conversation *talk, struct sojimu_verdict last)
+{
+    const struct sojimu_turn turn = sojimu_turn(protocol, &talk->state);
+    const uint32_t side = turn.side == SOJIMU_DEVICE ? SOJIMU_HOST : SOJIMU_DEVICE;
+    const size_t length = sojimu_front(talk->waiting[side], talk->length[side]).length;
+    uint8_t out[SOJIMU_MESSAGE];
+    if (protocol->edition != 2 || turn.question != 0 || length == 0 || length > talk->length[side])
+        return last;
+    const struct sojimu_verdict v = sojimu_step(protocol, &talk->state, side, talk->waiting[side], length, out, sizeof out);
+    return v.outcome == SOJIMU_BLAMED ? v : last;
+}
+
 /* The tender's page, after each round: which branches are picked far too often or too seldom for their shares. */
 static void page(const struct sojimu_table *protocol, const struct sojimu_state *state)
 {
@@ -121,6 +136,7 @@ static bool pump(const struct sojimu_table *protocol, struct conversation *talk)
     do
         last = take(protocol, talk);
     while (last.outcome == SOJIMU_REFUSED && last.question == 16); /* an output was full, and has room again */
+    last = early(protocol, talk, last);
     if (last.outcome == SOJIMU_BLAMED) {
         printf("%s blamed, reason %d\n", names[last.party], last.reason);
         return false;
@@ -148,13 +164,13 @@ static bool hear(const struct sojimu_table *protocol, struct conversation *talk,
 
 int main(void)
 {
-    struct sojimu_table protocol, device, other;
+    struct sojimu_table protocol, device, other, second;
     if (!sojimu_matches()) {
         printf("the archive is of another version\n");
         return 1;
     }
     load("rec X.X", &protocol);
-    if (!load(protocol_text, &protocol) || !load(device_text, &device) || !load(other_text, &other))
+    if (!load(protocol_text, &protocol) || !load(device_text, &device) || !load(other_text, &other) || !load(second_text, &second))
         return 1;
     fits(&other, &protocol);
     if (!fits(&device, &protocol))
@@ -176,6 +192,10 @@ int main(void)
     /* One that names a grade in another encoding. */
     struct conversation encoded = {.state = started.state};
     if (hear(&protocol, &encoded, SOJIMU_DEVICE, "Grade\0\0\0\1\1\0\0\0\1\344", 15))
+        return 1;
+    /* The second edition, under which the host may not be early. */
+    struct conversation strict = {.state = sojimu_fresh(&second, SETTING).state};
+    if (hear(&second, &strict, SOJIMU_HOST, "Ok\0\0\0\0\0\0\0", 9))
         return 1;
     return 0;
 }

@@ -93,7 +93,7 @@ static struct sojimu_table table;
 /* Calls over two texts, and over one. */
 static void texts(void)
 {
-    static const char *const all[] = {"", "end", P, deep, deeper, recs, largest, other, blanks};
+    static const char *const all[] = {"", "end", P, deep, deeper, recs, largest, other, blanks, "edition 2 end", "edition 3"};
     enum { TEXTS = sizeof all / sizeof all[0] };
     static struct sojimu_table given;
     static uint8_t report[SOJIMU_REPORT];
@@ -128,12 +128,16 @@ static void messages(void)
     static uint8_t message[ROOM], other_out[ROOM];
     const struct sojimu_made made = sojimu_make(&table, 0, 0, message, ROOM);
     const struct sojimu_state start = fresh(&table);
+    struct sojimu_table second = table;
+    second.edition = 2;
     CHECK(made.question == 0);
     NEEDS(sojimu_raw_make, SOJIMU_STACK_TABLE, AT(&table), 0, 0, AT(out), ROOM);
     NEEDS(sojimu_raw_make, SOJIMU_STACK_TABLE, AT(&table), 0, SOJIMU_ALL_LOW, AT(out), 0);
     for (uint32_t side = 0; side < 3; side++) {
         state = start;
         NEEDS(sojimu_raw_step, SOJIMU_STACK_TABLE, AT(&table), AT(&state), AT(sojimu_counts(&state)), side, AT(message), made.length, AT(out), ROOM);
+        state = start;
+        NEEDS(sojimu_raw_step, SOJIMU_STACK_TABLE, AT(&second), AT(&state), AT(sojimu_counts(&state)), side, AT(message), made.length, AT(out), ROOM);
     }
     state = start;
     memcpy(message, "No", 2);

@@ -1,7 +1,7 @@
 // Puts the steps of the file `monitor` through `monitor::advance`, the step over a lent state, the batches of the file `batches`
-// through `monitor::batch::advance`, the batch over one, and those of the file `counts` through both, with what they count. No export
-// can reach either: an enum cannot cross to C. A step, a batch or counts that go wrong are printed by the line's letter and number; the
-// last line counts them.
+// through `monitor::batch::advance`, the batch over one, and those of the files `counts` and `editions` through both, with what they
+// count. No export can reach either: an enum cannot cross to C. A step, a batch or counts that go wrong are printed by the line's
+// letter and number; the last line of a file counts them.
 //   j edits                    the table of the lines after it: the empty table with these edits, each of them column, index and value
 //   g                          the state of a fresh conversation
 //   f z                        the same, with the setting z
@@ -36,9 +36,9 @@ struct Tally {
     wrong: u64,
 }
 
-// Where a column begins: states, branches, sort, owner, target, fields, label, kind, low, high, share.
+// Where a column begins: states, branches, sort, owner, target, fields, label, kind, low, high, share, edition.
 fn column(n: u64) -> usize
-    ensures { λ r. ⌜ r ≤ 2210 ⌝ }
+    ensures { λ r. ⌜ r ≤ 2338 ⌝ }
 {
     match n {
         0 => table::STATES,
@@ -51,7 +51,8 @@ fn column(n: u64) -> usize
         7 => table::KIND,
         8 => table::LOW,
         9 => table::HIGH,
-        _ => table::SHARE,
+        10 => table::SHARE,
+        _ => table::EDITION,
     }
 }
 
@@ -279,4 +280,5 @@ fn main() {
     report(b"monitor");
     report(b"batches");
     report(b"counts");
+    report(b"editions");
 }

@@ -104,6 +104,7 @@ fn blame_numbers(party: u8, why: Reason) -> [u8; 4] {
         Reason::NoLabel => [1, party, 1, 255],
         Reason::OtherKinds => [1, party, 2, 255],
         Reason::OutOfRange(f) => [1, party, 3, f],
+        Reason::Early => [1, party, 4, 255],
     }
 }
 

@@ -8,7 +8,7 @@ const MOST_COUNTED: u16 = 10_000;
 /// Question 9: is the table sound?
 pub fn sound(table: &Table) -> bool {
     let (states, branches) = (table.states as usize, table.branches as usize);
-    if !(1..=MOST_STATES).contains(&states) || branches > MOST_BRANCHES {
+    if !(1..=MOST_STATES).contains(&states) || branches > MOST_BRANCHES || !(1..=2).contains(&table.edition) {
         return false;
     }
     let (sort, owner, target) = (&table.sort[..states], &table.owner[..branches], &table.target[..branches]);
@@ -177,14 +177,15 @@ pub fn step(table: &Table, state: &mut State, side: Party, message: &[u8], out: 
 
 /// The questions of a step, then the judgement.
 fn chosen(table: &Table, state: &State, side: Party, message: &[u8], room: usize) -> Result<Result<usize, Reason>, Question> {
-    if turn(table, state)? != side {
+    let early = turn(table, state)? != side;
+    if early && table.edition == 1 {
         return Err(Question(12));
     }
     let parsed = parse(message)?;
     if room < message.len() {
         return Err(Question(16));
     }
-    Ok(judge(table, state.position, &parsed))
+    Ok(if early { Err(Reason::Early) } else { judge(table, state.position, &parsed) })
 }
 
 /// Questions 9, 10 and 11, and then whose turn it is.

@@ -31,7 +31,7 @@ fn main() {
         let (from, to) = (&rows[0].race, &rows[2].race);
         grown.push((rows[0].call, to.first / from.first, to.second / from.second));
     }
-    for call in [counts, shares] {
+    for call in [counts, shares, editions] {
         inputs.iter().map(call).for_each(|row| row.print());
     }
     hand_written().print();
@@ -150,6 +150,20 @@ fn shares(input: &Input) -> Row {
         input,
         "the same without shares",
         |side, message| shared.step(black_box(&mut one), side, message, &mut out),
+        |side, message| table.step(black_box(&mut other), side, message, &mut room),
+    )
+}
+
+/// One step under edition 2, against one over the same table under edition 1.
+fn editions(input: &Input) -> Row {
+    let (table, second) = (&input.table(), &Table { edition: 2, ..input.table() });
+    let (start, _) = input.conversation();
+    let (mut one, mut other) = (start, start);
+    let (mut out, mut room) = ([0; 300], [0; 300]);
+    steps(
+        input,
+        "the same under edition 1",
+        |side, message| second.step(black_box(&mut one), side, message, &mut out),
         |side, message| table.step(black_box(&mut other), side, message, &mut room),
     )
 }
@@ -395,7 +409,7 @@ fn longest_fit() -> Row {
 /// States that send the same, each on to the next.
 fn cycle(length: usize) -> Lists {
     let branch = |owner| Branch { owner, label: label_of(b"Go"), fields: vec![], share: None, target: (owner + 1) % length };
-    Lists { states: vec![Sort::Sends; length], branches: (0..length).map(branch).collect() }
+    Lists { states: vec![Sort::Sends; length], branches: (0..length).map(branch).collect(), edition: 1 }
 }
 
 fn fit_row(name: &'static str, device: &Table, protocol: &Table, d: &Lists, p: &Lists) -> Row {

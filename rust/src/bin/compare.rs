@@ -9,7 +9,7 @@
 //! of messages, with 20,000 devices that do not fit, of 5,000 of which the machine was explored whole. The status is 0 only when
 //! none failed.
 
-use sojimu::compare::{Batched, Disagreement, Encoded, Failed, Kind, Named, Shared, Tally, KINDS};
+use sojimu::compare::{Batched, Disagreement, Early, Encoded, Failed, Issued, Kind, Named, Shared, Tally, KINDS};
 use std::process::ExitCode;
 use std::time::Instant;
 
@@ -144,6 +144,8 @@ fn demands(tally: &Tally) -> Vec<(String, u64, u64)> {
     Shared::ALL.into_iter().zip(tally.shared).for_each(|(what, count)| often(what.into(), count));
     Failed::ALL.into_iter().zip(tally.failed).for_each(|(what, count)| often(what.into(), count));
     Encoded::ALL.into_iter().zip(tally.encoded).for_each(|(what, count)| often(what.into(), count));
+    Issued::ALL.into_iter().zip(tally.issued).for_each(|(what, count)| often(what.into(), count));
+    Early::ALL.into_iter().zip(tally.early).for_each(|(what, count)| often(what.into(), count));
     all.push(("fails".into(), tally.fails, FAILING));
     all.push(("fails, explored".into(), tally.explored, EXPLORED));
     all.push(("utf8, texts".into(), tally.texts, TEXTS));

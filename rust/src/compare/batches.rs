@@ -4,18 +4,21 @@
 
 use super::both::{batch_codes, state, state_after, state_codes, Both};
 use super::endings::{count, Batched};
-use super::steps::{anywhere, Odds, UNTOUCHED};
-use super::{both, show, Outcome, Tally};
-use crate::proved::{ffi, Batch, Party, Question, State, Table, Verdict};
+use super::steps::{self, anywhere, step_of, Odds, UNTOUCHED};
+use super::turns::whole;
+use super::{both, show, Early, Outcome, Tally};
+use crate::proved::{ffi, Batch, Party, Question, Reason, State, Table, Verdict};
+use crate::second::monitor::Side;
 use crate::second::random::{endless_table, ragged, sound_table, state_at, walk, with_texts, Random, Waiting};
 use crate::second::table::{self, Raw};
 use crate::second::{batch, text};
 
 /// The protocols of the trade.
-const EXAMPLES: [&[u8]; 3] = [
+const EXAMPLES: [&[u8]; 4] = [
     include_bytes!("../../../examples/scanner/protocol.txt"),
     include_bytes!("../../../examples/steambox/protocol.txt"),
     include_bytes!("../../../examples/spray/protocol.txt"),
+    include_bytes!("../../../examples/editions/protocol.txt"),
 ];
 
 /// What a batch is given: a state, the bytes that wait, and the room of either output.
@@ -68,7 +71,28 @@ pub fn case(random: &mut Random, tally: &mut Tally) -> Outcome {
     let (device_room, host_room) = (room(random, waiting.host.len()), room(random, waiting.device.len()));
     let given = Given { state, waiting, device_room, host_room };
     let whole = batch_of(&given, &both, tally)?;
+    early_then(&given, &both, &whole, tally)?;
     in_two_pieces(random, &given, &both, &whole, tally)
+}
+
+/// A whole message that the batch has left on the side whose turn it is not: put to a step, it is refused by 12 under edition 1, and
+/// under edition 2 its sender is blamed.
+fn early_then(given: &Given, both: &Both, left: &Left, tally: &mut Tally) -> Outcome {
+    let Waiting { device, host } = &given.waiting;
+    let (side, rest) = match both.proved.turn(&left.state) {
+        Ok(Party::Device) => (Side::Host, &host[left.batch.used_host..]),
+        Ok(Party::Host) => (Side::Device, &device[left.batch.used_device..]),
+        Err(_) => return Ok(()),
+    };
+    let Some(length) = whole(rest) else {
+        return Ok(());
+    };
+    let early = steps::Given { state: left.state, side, message: rest[..length].to_vec(), room: length };
+    let two = both.second.edition == 2;
+    tally.early(Early::Left, two);
+    let verdict = both.proved.step(&mut left.state.clone(), both::party(side), &early.message, &mut vec![0; length]);
+    tally.early(Early::LeftBlamed, verdict == Verdict::Blamed(both::party(side), Reason::Early));
+    step_of(&early, both, tally).map(drop)
 }
 
 /// A few messages, with every room of either output from none to more than enough.

@@ -43,6 +43,7 @@ impl From<&Raw> for Table {
             low: raw.low,
             high: raw.high,
             share: raw.share,
+            edition: raw.edition,
             reserved: raw.reserved,
         }
     }
@@ -63,6 +64,7 @@ impl From<&Table> for Raw {
             low: table.low,
             high: table.high,
             share: table.share,
+            edition: table.edition,
             reserved: table.reserved,
         }
     }
@@ -122,6 +124,7 @@ pub fn verdict(verdict: second::Verdict) -> Verdict {
                 second::Reason::Label => Reason::NoLabel,
                 second::Reason::Kinds => Reason::OtherKinds,
                 second::Reason::Range(field) => Reason::OutOfRange(field as u8),
+                second::Reason::Early => Reason::Early,
             },
         ),
     }
@@ -135,7 +138,7 @@ pub fn verdict_codes(verdict: second::Verdict) -> ffi::Verdict {
         second::Verdict::Refused(question) => ffi::Verdict { outcome: 1, question, ..nothing },
         second::Verdict::Blamed(side, reason) => {
             let field = match reason {
-                second::Reason::Label | second::Reason::Kinds => 0,
+                second::Reason::Label | second::Reason::Kinds | second::Reason::Early => 0,
                 second::Reason::Range(field) => field as u8,
             };
             ffi::Verdict { outcome: 2, party: party(side) as u8, reason: reason.number(), field, ..nothing }

@@ -62,7 +62,7 @@ pub fn of_text(random: &mut Random, tally: &mut Tally) -> Outcome {
 }
 
 /// A conversation begins, under a table that is sound.
-fn begun(random: &mut Random, both: &Both, tally: &mut Tally) -> Result<State, String> {
+pub fn begun(random: &mut Random, both: &Both, tally: &mut Tally) -> Result<State, String> {
     let setting = setting(random);
     fresh_of(both, setting, tally)?.ok_or("the table is not sound".to_string())
 }
@@ -86,8 +86,9 @@ fn others(random: &mut Random, both: &Both, state: State, tally: &mut Tally) -> 
     let mut given = allowed(random, both, &state);
     match random.below(16) {
         0 => {
-            given.side = if given.side == Side::Device { Side::Host } else { Side::Device };
-            step_of(&given, both, tally)
+            given.side = given.side.other();
+            step_of(&given, both, tally)?;
+            Ok(state)
         }
         1 => {
             given.room = random.below(given.message.len());

@@ -155,6 +155,8 @@ fn blamed(party: Party, reason: Reason) -> Batched {
         (Party::Host, Reason::NoLabel) => Batched::Host1,
         (Party::Host, Reason::OtherKinds) => Batched::Host2,
         (Party::Host, Reason::OutOfRange(_)) => Batched::Host3,
+        // What is taken is due, and so never early.
+        (_, Reason::Early) => unreachable!("a batch blames nobody for an early message"),
     }
 }
 

@@ -3,7 +3,7 @@
 
 use super::both::Both;
 use super::names::has;
-use super::{failures, show, Named, Outcome, Shared, Tally};
+use super::{editions, failures, show, Named, Outcome, Shared, Tally};
 use crate::proved::{ffi, Fitting, Question};
 use crate::second::brute::explore;
 use crate::second::fit::{fit, shows_no_fit, Answer};
@@ -100,7 +100,25 @@ fn pair(random: &mut Random, device: &Table, protocol: &Table, tally: &mut Tally
         check(&damaged, &protocol, 1024, tally)?;
         check(&device, &damaged, 1024, tally)?;
     }
+    under_each_edition(&device, &protocol, product, tally)?;
     check(&device, &protocol, product + random.below(3), tally)
+}
+
+/// Under every two editions the proved code has the same answer, and shows the same moves.
+fn under_each_edition(device: &Both, protocol: &Both, room: usize, tally: &mut Tally) -> Outcome {
+    let answer = |of_device: u32, of_protocol: u32| {
+        let (mut device, mut protocol) = (device.proved.clone(), protocol.proved.clone());
+        (device.edition, protocol.edition) = (of_device, of_protocol);
+        let mut list = vec![UNTOUCHED; room];
+        (device.fit(&protocol, &mut list), list)
+    };
+    let first = answer(1, 1);
+    for (of_device, of_protocol) in [(1, 2), (2, 1), (2, 2)] {
+        tally.same("fit, by editions", answer(of_device, of_protocol), first.clone(), || {
+            format!("editions {of_device} and {of_protocol}\n{}", show_pair(device, protocol))
+        })?;
+    }
+    Ok(())
 }
 
 /// The fit check through both. Of a failing list: the same moves, and on the machine they show that the device does not fit. What
@@ -131,6 +149,7 @@ fn check(device: &Both, protocol: &Both, room: usize, tally: &mut Tally) -> Resu
     let shared = [device, protocol].iter().any(|both| both.second.branches.iter().any(|branch| branch.share.is_some()));
     tally.share(Shared::Fits, shared && matches!(answer, Fitting::Fits { .. }));
     tally.share(Shared::Fails, shared && matches!(answer, Fitting::Fails { .. }));
+    editions::count_fit(device, protocol, answer, tally);
     let wanted = (second, true, wanted, codes(second), wanted_again);
     tally.same("fit", (proved, shown, list, given, again), wanted, || {
         format!("room {room}, {answer:?}\n{}", show_pair(device, protocol))

@@ -8,6 +8,8 @@
 mod batches;
 mod both;
 mod conversations;
+mod early;
+mod editions;
 mod encodings;
 mod endings;
 mod failures;
@@ -22,16 +24,19 @@ mod steps;
 mod tables;
 mod tally;
 mod texts;
+mod turns;
 mod utf8;
 mod warnings;
 
 pub use both::{batch, party, state, state_after, state_codes, verdict, warning};
+pub use editions::Issued;
 pub use encodings::Encoded;
 pub use endings::Batched;
 pub use failures::Failed;
 pub use names::Named;
 pub use shares::Shared;
 pub use tally::Tally;
+pub use turns::Early;
 
 use crate::second::random::Random;
 
@@ -48,8 +53,9 @@ pub struct Kind {
 }
 
 /// Every kind of comparison.
-pub const KINDS: [Kind; 22] = [
+pub const KINDS: [Kind; 24] = [
     Kind { name: "texts", cases: 100_000, run: texts::case },
+    Kind { name: "openings", cases: 20_000, run: texts::opening },
     Kind { name: "tables", cases: 1_600, run: tables::case },
     Kind { name: "messages", cases: 12_000, run: messages::case },
     Kind { name: "labels", cases: 12_000, run: labels::case },
@@ -59,6 +65,7 @@ pub const KINDS: [Kind; 22] = [
     Kind { name: "utf8-steps", cases: 4_000, run: utf8::steps },
     Kind { name: "utf8-batches", cases: 4_000, run: utf8::batches },
     Kind { name: "steps", cases: 40_000, run: steps::case },
+    Kind { name: "early", cases: 20_000, run: early::case },
     Kind { name: "conversations", cases: 20, run: conversations::case },
     Kind { name: "text-talks", cases: 1_000, run: conversations::of_text },
     Kind { name: "batches", cases: 20_000, run: batches::case },

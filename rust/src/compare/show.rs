@@ -41,7 +41,7 @@ pub fn state(state: &State) -> String {
 pub fn table(name: &str, table: &Table) -> String {
     let states = (table.states as usize).min(MOST_STATES);
     let branches = (table.branches as usize).min(MOST_BRANCHES);
-    let mut lines = format!("{name}: {} states, {} branches\n", table.states, table.branches);
+    let mut lines = format!("{name}: {} states, {} branches, edition {}\n", table.states, table.branches, table.edition);
     lines += &format!("  sort {:?}\n", &table.sort[..states]);
     for b in 0..branches {
         let label = String::from_utf8_lossy(&table.label(b).to_be_bytes()).into_owned();

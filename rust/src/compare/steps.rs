@@ -3,6 +3,7 @@
 
 use super::both::{codes, party, state, state_after, state_codes, verdict, verdict_codes, Both};
 use super::shares::{count_forwarded, count_refused};
+use super::turns::{count_neither, count_step, count_undue};
 use super::{show, Outcome, Shared, Tally};
 use crate::proved::{ffi, Question, Standing, State, Verdict, MOST_BRANCHES, MOST_STATES};
 use crate::second::monitor::{self, awaited, due, step, turn, Side};
@@ -42,9 +43,9 @@ pub fn case(random: &mut Random, tally: &mut Tally) -> Outcome {
     let sound = sound_table(random, states, branches);
     let (both, state) = anywhere(random, &sound, Odds { damaged: 16, beyond: 8, stopped: 6, counts: 8 });
     let spoken = usize::from(state.position).min(sound.states.len() - 1);
-    let mut side = turn(sound.states[spoken]).unwrap_or(*random.pick(&[Side::Device, Side::Host]));
+    let mut side = turn(sound.states[spoken]).unwrap_or(*random.pick(&Side::BOTH));
     if random.one_in(8) {
-        side = if side == Side::Device { Side::Host } else { Side::Device };
+        side = side.other();
     }
     let mut message = message_for(random, &sound, spoken);
     if random.one_in(6) {
@@ -122,6 +123,7 @@ pub fn step_of(given: &Given, both: &Both, tally: &mut Tally) -> Result<State, S
     let (mut again, mut same) = (*before, untouched());
     let codes = ffi::step(&both.proved, &mut again, party(*side) as u32, message, &mut same);
     tally.verdict(proved);
+    count_step(given, both, proved, tally);
     match proved {
         Verdict::Forwarded => count_forwarded(before, tally),
         Verdict::Refused(question) => count_refused(both, before, question, tally),
@@ -131,17 +133,17 @@ pub fn step_of(given: &Given, both: &Both, tally: &mut Tally) -> Result<State, S
     Ok(after)
 }
 
-/// The step of a side that is neither: 12, after 9, 10 and 11. Nothing changes.
+/// The step of a side that is neither: 12, after 9, 10 and 11, under either edition. Nothing changes.
 pub fn nobodys_step(random: &mut Random, given: &Given, both: &Both, tally: &mut Tally) -> Outcome {
     let Given { state: before, message, room, .. } = given;
     let code = *random.pick(&[2, 3, 255, 256, 257, 0x1_0000, 0x1_0001, 0x8000_0000, 0x8000_0001, u32::MAX]);
-    // Whose turn it is not is told the same.
-    let other = if given.speaker(both) == Ok(Side::Device) { Side::Host } else { Side::Device };
-    let second = step(&both.second, &mut state(before), other, message, &mut vec![0; *room]);
+    let question = given.speaker(both).err().unwrap_or(12);
+    count_neither(given, both, question, tally);
     let (mut after, mut output) = (*before, vec![UNTOUCHED; *room]);
     let codes = ffi::step(&both.proved, &mut after, code, message, &mut output);
     tally.strange += 1;
-    let wanted = (verdict_codes(second), *before, vec![UNTOUCHED; *room]);
+    let refused = verdict_codes(monitor::Verdict::Refused(question));
+    let wanted = (refused, *before, vec![UNTOUCHED; *room]);
     tally.same("step of no side", (codes, after, output), wanted, || format!("side {code}, {}", given.show(both)))
 }
 
@@ -156,6 +158,9 @@ pub fn due_of(given: &Given, both: &Both, device: &[u8], host: &[u8], tally: &mu
     let told = ffi::due(&both.proved, &given.state, device, host);
     let wanted = due(&both.second, &state(&given.state), device, host);
     let waiting = if wanted.side == Side::Device { device } else { host };
+    if wanted.length == 0 {
+        count_undue(given, both, device, host, tally);
+    }
     // The part begins where that side's bytes begin.
     let place = (part.side, part.message.as_ptr(), part.message.len(), told.side, told.length);
     let side = party(wanted.side);

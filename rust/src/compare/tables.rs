@@ -4,7 +4,7 @@ use super::batches::{self, batch_of};
 use super::both::{codes, state_codes, Both};
 use super::show::{self, Columns};
 use super::steps::{due_of, fresh_of, nobodys_step, step_of, Given, UNTOUCHED};
-use super::{Outcome, Tally};
+use super::{Issued, Outcome, Tally};
 use crate::proved::message::{label_legal, range_legal};
 use crate::proved::{ffi, Question, Standing, State, Table};
 use crate::second::message;
@@ -14,7 +14,7 @@ use crate::second::random::{
 };
 use crate::second::table::{legal_label, Kind, Raw, MOST_BRANCHES, MOST_STATES};
 
-/// A table and its damaged copies, through each call that takes one.
+/// A table, the same of every edition word that is telling, and its damaged copies, through each call that takes one.
 pub fn case(random: &mut Random, tally: &mut Tally) -> Outcome {
     let (states, branches) = *random.pick(&[(4, 6), (4, 6), (12, 20), (12, 20), (32, 128)]);
     let table = Raw::of(&sound_table(random, states, branches));
@@ -25,6 +25,9 @@ pub fn case(random: &mut Random, tally: &mut Tally) -> Outcome {
         let whole = if random.one_in(2) { &noisy } else { &table };
         let damaged = damaged_table(random, whole, column);
         one(random, &damaged, tally)?;
+    }
+    for edition in [0, 1, 2, 3, u32::MAX] {
+        one(random, &Raw { edition, ..table.clone() }, tally)?;
     }
     let any = any_raw(random);
     one(random, &any, tally)?;
@@ -37,6 +40,7 @@ fn one(random: &mut Random, columns: &Raw, tally: &mut Tally) -> Outcome {
     let sound = both.proved.sound();
     tally.asked((!sound).then_some(Question(9)));
     tally.wide += u64::from(!sound && last_bytes(columns).sound());
+    tally.issue(Issued::Table, !sound && Raw { edition: 1, ..columns.clone() }.sound());
     tally.same("sound", sound, columns.sound(), show)?;
     let position = strange(random, tally, 34);
     tally.same("sound at", both.proved.sound_at(position), columns.sound_at(position as usize), show)?;
@@ -58,8 +62,8 @@ fn one(random: &mut Random, columns: &Raw, tally: &mut Tally) -> Outcome {
 /// The table with the last byte of each word that is a count, a code or a number of a state.
 fn last_bytes(columns: &Raw) -> Raw {
     let mut raw = columns.clone();
-    let Raw { states, branches, sort, owner, target, fields, kind, .. } = &mut raw;
-    let words = [states, branches].into_iter().chain(sort).chain(owner).chain(target).chain(fields).chain(kind);
+    let Raw { states, branches, sort, owner, target, fields, kind, edition, .. } = &mut raw;
+    let words = [states, branches, edition].into_iter().chain(sort).chain(owner).chain(target).chain(fields).chain(kind);
     words.for_each(|word| *word &= 0xFF);
     raw
 }
@@ -129,7 +133,7 @@ fn given(random: &mut Random, both: &Both) -> Given {
     let standing = if random.one_in(8) { Standing(random.byte()) } else { Standing::RUNNING };
     let state = random.below(both.second.states.len());
     let message = faulty_message(random, &both.second, state);
-    let side = *random.pick(&[Side::Device, Side::Host]);
+    let side = *random.pick(&Side::BOTH);
     let counted = state_codes(&state_at(random, &both.second, position.into()));
     Given { state: State { standing, ..counted }, side, room: message.len(), message }
 }

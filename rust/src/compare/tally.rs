@@ -1,6 +1,6 @@
 //! What was compared.
 
-use super::{Batched, Encoded, Failed, Named, Outcome, Shared};
+use super::{Batched, Early, Encoded, Failed, Issued, Named, Outcome, Shared};
 use crate::proved::{Question, Verdict};
 use crate::second::table::LABEL_BYTES;
 use std::fmt::Debug;
@@ -11,9 +11,9 @@ pub struct Tally {
     /// Calls put through both.
     pub comparisons: u64,
     /// Refusals by the number of the question.
-    pub questions: [u64; 23],
+    pub questions: [u64; 24],
     /// Blames by the number of the reason.
-    pub reasons: [u64; 4],
+    pub reasons: [u64; 5],
     /// Messages forwarded.
     pub forwarded: u64,
     /// Bytes that nothing can mend.
@@ -52,6 +52,10 @@ pub struct Tally {
     pub texts: u64,
     /// What they are, and where 22 refused them, in the order of [`Encoded`].
     pub encoded: [u64; Encoded::ALL.len()],
+    /// What came of editions, in the order of [`Issued`].
+    pub issued: [u64; Issued::ALL.len()],
+    /// What came of messages out of turn, in the order of [`Early`].
+    pub early: [u64; Early::ALL.len()],
 }
 
 impl Tally {
@@ -67,6 +71,8 @@ impl Tally {
         self.shared.iter_mut().zip(other.shared).for_each(|(mine, its)| *mine += its);
         self.failed.iter_mut().zip(other.failed).for_each(|(mine, its)| *mine += its);
         self.encoded.iter_mut().zip(other.encoded).for_each(|(mine, its)| *mine += its);
+        self.issued.iter_mut().zip(other.issued).for_each(|(mine, its)| *mine += its);
+        self.early.iter_mut().zip(other.early).for_each(|(mine, its)| *mine += its);
         self.texts += other.texts;
         self.forwarded += other.forwarded;
         self.broken += other.broken;
@@ -126,6 +132,16 @@ impl Tally {
     /// Counts a text that is so as UTF-8, or what came of one, if it did.
     pub(super) fn encode(&mut self, what: Encoded, holds: bool) {
         self.encoded[what as usize] += u64::from(holds);
+    }
+
+    /// Counts what came of an edition, if this did.
+    pub(super) fn issue(&mut self, what: Issued, holds: bool) {
+        self.issued[what as usize] += u64::from(holds);
+    }
+
+    /// Counts what came of a message out of turn, if this did.
+    pub(super) fn early(&mut self, what: Early, holds: bool) {
+        self.early[what as usize] += u64::from(holds);
     }
 
     /// Counts a verdict.

@@ -242,7 +242,7 @@ pub fn steps(random: &mut Random, tally: &mut Tally) -> Outcome {
     tally.encode(Encoded::By15, answer(&long, both) == Verdict::Refused(Question(15)));
     step_of(&long, both, tally)?;
 
-    let early = Given { side: if *side == Side::Device { Side::Host } else { Side::Device }, ..given.clone() };
+    let early = Given { side: side.other(), ..given.clone() };
     tally.encode(Encoded::By12, answer(&early, both) == Verdict::Refused(Question(12)));
     step_of(&early, both, tally)?;
 

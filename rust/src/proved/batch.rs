@@ -30,7 +30,7 @@ impl Batch {
 impl Table {
     /// Takes the due messages of the bytes that wait on either side, in turn, each by a step, until none is due, a step refuses or
     /// a blame falls. The device's messages go to `to_host`, the host's to `to_device`, one behind the other; the rest of both is
-    /// unchanged. Asks 9 and 10.
+    /// unchanged. What comes early is not due and waits, under edition 2 too: nobody is blamed for it here. Asks 9 and 10.
     ///
     /// All is as by [`Table::due`] and [`Table::step`], each step given what is left of its output; but 9 is asked once. A message
     /// that 16 refuses is not used, and what was forwarded before it stays so: make room, and go on with the rest. Nor is one that

@@ -119,7 +119,7 @@ macro_rules! laid_out {
 laid_out!(
     Table, 9360, 4,
     states 0, branches 4, sort 8, owner 136, target 648, fields 1160, label_high 1672, label_low 2184,
-    kind 2696, low 4744, high 6792, share 8840, reserved 9352
+    kind 2696, low 4744, high 6792, share 8840, edition 9352, reserved 9356
 );
 laid_out!(Told, 8, 4, question 0, at 4);
 laid_out!(Turned, 9364, 4, question 0, table 4);

@@ -29,7 +29,8 @@ pub enum Fitting {
 impl Table {
     /// Does this device fit the protocol? Asks 9 of both, then 17: the list needs device states times protocol states entries.
     /// Where it does not fit, the first entries of the list become the fewest moves that show it, for the same tables the same;
-    /// else the list is unchanged.
+    /// else the list is unchanged. The conversation is held under the protocol's edition, whatever the device's is; the answer is
+    /// the same under both.
     ///
     /// ```
     /// use sojimu::{Fitting, Table};

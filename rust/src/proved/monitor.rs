@@ -71,10 +71,12 @@ pub enum Reason {
     OtherKinds,
     /// 3: a number is outside its range; the first such field, counted from 0.
     OutOfRange(u8),
+    /// 4: it is the other side's turn. Under edition 2 only, and ahead of the other reasons.
+    Early,
 }
 
 impl Reason {
-    /// The reason's number in document 01.
+    /// The reason's number in documents 01 and 02.
     ///
     /// ```
     /// assert_eq!(sojimu::Reason::OutOfRange(0).number(), 3);
@@ -84,6 +86,7 @@ impl Reason {
             Reason::NoLabel => 1,
             Reason::OtherKinds => 2,
             Reason::OutOfRange(_) => 3,
+            Reason::Early => 4,
         }
     }
 }
@@ -93,9 +96,10 @@ impl Reason {
 pub enum Verdict {
     /// The message's bytes open the output, the position has moved on, and the counts have risen.
     Forwarded,
-    /// A question got a no, and nothing has changed. 12 means that it is the other side's turn: the message may only be early.
+    /// A question got a no, and nothing has changed. 12 means that it is the other side's turn, under edition 1: the message may
+    /// only be early.
     Refused(Question),
-    /// The protocol forbids the message: its sender is blamed, for ever.
+    /// The protocol forbids the message, or it is early under edition 2: its sender is blamed, for ever.
     Blamed(Party, Reason),
 }
 
@@ -110,6 +114,7 @@ impl Verdict {
                 match verdict.reason {
                     1 => Reason::NoLabel,
                     2 => Reason::OtherKinds,
+                    4 => Reason::Early,
                     _ => Reason::OutOfRange(verdict.field),
                 },
             ),
@@ -150,7 +155,8 @@ impl Table {
     }
 
     /// One step: a message of one side is forwarded into `out`, refused or blamed, and the state advanced. Asks 9 to 15, then 22,
-    /// then 16. Nobody is blamed for a text that is not well-formed UTF-8, also where the protocol forbids the message.
+    /// then 16; under edition 2 not 12. Nobody is blamed for a text that is not well-formed UTF-8, also where the protocol forbids
+    /// the message or it is early.
     ///
     /// ```
     /// use sojimu::{Party, Question, Reason, Table, Verdict};
@@ -168,12 +174,23 @@ impl Table {
     /// assert_eq!(after, Verdict::Refused(Question(10)));
     /// # Ok::<(), Box<dyn std::error::Error>>(())
     /// ```
+    ///
+    /// Under edition 2 who speaks out of turn is blamed, whatever the message says:
+    ///
+    /// ```
+    /// # use sojimu::{Party, Reason, Table, Verdict};
+    /// let protocol = Table::read(b"edition 2 rec X.+{!Ask(int[0..100]).&{?Ok().X},!Quit().end}")?;
+    /// let mut state = protocol.fresh(200)?;
+    /// let early = protocol.step(&mut state, Party::Host, b"Ok\0\0\0\0\0\0\0", &mut [0; 9]);
+    /// assert_eq!(early, Verdict::Blamed(Party::Host, Reason::Early));
+    /// # Ok::<(), Box<dyn std::error::Error>>(())
+    /// ```
     #[inline]
     pub fn step(&self, state: &mut State, side: Party, message: &[u8], out: &mut [u8]) -> Verdict {
         Verdict::of(ffi::step(self, state, side as u32, message, out))
     }
 
-    /// Whose turn it is. Asks 9, 10 and 11.
+    /// Whose turn it is, under either edition. Asks 9, 10 and 11.
     ///
     /// ```
     /// use sojimu::{Party, Question, Table};
@@ -194,9 +211,9 @@ impl Table {
         }
     }
 
-    /// The due message of the bytes that wait on either side: the first of the side whose turn it is. It is empty, at that side's
-    /// start, when 13 or 14 would refuse it or it is not all there; when 9, 10 or 11 would, at the device's start. It is cut by its
-    /// length: a step may yet refuse it by 22.
+    /// The due message of the bytes that wait on either side: the first of the side whose turn it is, under either edition. It is
+    /// empty, at that side's start, when 13 or 14 would refuse it or it is not all there; when 9, 10 or 11 would, at the device's
+    /// start. It is cut by its length: a step may yet refuse it by 22.
     ///
     /// ```
     /// use sojimu::{Party, Table};

@@ -12,7 +12,7 @@ use std::fmt;
 /// ```
 #[derive(Clone, Copy, Debug, PartialEq, Eq, PartialOrd, Ord, Hash)]
 pub struct Question(
-    /// The number: 1 to 22.
+    /// The number: 1 to 23.
     pub u8,
 );
 
@@ -24,7 +24,8 @@ impl Question {
     ///
     /// assert_eq!(Question(21).words(), "is the setting 1 to 1000?");
     /// assert_eq!(Question(22).words(), "is every text well-formed UTF-8?");
-    /// assert_eq!(Question(23).words(), "");
+    /// assert_eq!(Question(23).words(), "is the edition 1 or 2?");
+    /// assert_eq!(Question(24).words(), "");
     /// ```
     pub fn words(self) -> &'static str {
         match self.0 {
@@ -36,7 +37,7 @@ impl Question {
             6 => "is the number within its kind, and high not below low?",
             7 => "is the label new in its choice?",
             8 => "is the token within the limits?",
-            9 => "is the table sound, the position one of its states, and are the counts sound?",
+            9 => "is the table sound, its edition 1 or 2, the position one of its states, and are the counts sound?",
             10 => "is the standing running?",
             11 => "is the position not an end?",
             12 => "is it this side's turn?",
@@ -50,6 +51,7 @@ impl Question {
             20 => "has the choice no shares, or one for each branch, which add to 1000?",
             21 => "is the setting 1 to 1000?",
             22 => "is every text well-formed UTF-8?",
+            23 => "is the edition 1 or 2?",
             _ => "",
         }
     }
@@ -80,7 +82,7 @@ impl Error for Question {}
 /// ```
 #[derive(Clone, Copy, Debug, PartialEq, Eq, Hash)]
 pub struct Refusal {
-    /// The question that got a no: 1 to 8, 19 or 20.
+    /// The question that got a no: 1 to 8, 19, 20 or 23.
     pub question: Question,
     /// The first byte of the token; the text's length when the text ran out.
     pub at: usize,

@@ -50,8 +50,10 @@ pub struct Table {
     pub high: [u32; MOST_FIELDS * MOST_BRANCHES],
     /// The share of the branch in thousandths, 1 to 1000; 0 where it carries none.
     pub share: [u32; MOST_BRANCHES],
-    /// Nothing looks at these.
-    pub reserved: [u32; 2],
+    /// The edition of the standard, 1 or 2: under 2 who speaks out of turn is blamed.
+    pub edition: u32,
+    /// Nothing looks at this.
+    pub reserved: u32,
 }
 
 impl Table {
@@ -65,7 +67,7 @@ impl Table {
         ffi::sojimu_empty()
     }
 
-    /// Reads a protocol text; asks 1 to 8, 19 and 20.
+    /// Reads a protocol text; asks 1 to 8, 19, 20 and 23.
     ///
     /// ```
     /// use sojimu::{Question, Table};
@@ -92,6 +94,17 @@ impl Table {
     /// assert_eq!(table.share[..2], [10, 990]);
     /// let refusal = Table::read(b"+{!Knot()@10.end,!Clear().end}").unwrap_err();
     /// assert_eq!((refusal.question, refusal.at), (Question(20), 29));
+    /// # Ok::<(), sojimu::Refusal>(())
+    /// ```
+    ///
+    /// A text may open with its edition, which is 1 where it does not:
+    ///
+    /// ```
+    /// # use sojimu::{Question, Table};
+    /// assert_eq!(Table::read(b"edition 2 +{!A().end}")?.edition, 2);
+    /// assert_eq!(Table::read(b"+{!A().end}")?.edition, 1);
+    /// let refusal = Table::read(b"edition 3 +{!A().end}").unwrap_err();
+    /// assert_eq!((refusal.question, refusal.at), (Question(23), 8));
     /// # Ok::<(), sojimu::Refusal>(())
     /// ```
     #[inline]
@@ -147,7 +160,7 @@ impl Table {
         ffi::sojimu_sound_at(self, position)
     }
 
-    /// The same conversation as the other side sees it, sending and receiving exchanged; asks 9.
+    /// The same conversation as the other side sees it, sending and receiving exchanged, under the same edition; asks 9.
     ///
     /// ```
     /// let table = sojimu::Table::read(b"+{!A().end}")?;

@@ -1,4 +1,4 @@
-//! Device and monitor together: the machine of the document, as a definition.
+//! Device and monitor together: the machine of the document, as a definition. Of the two editions it is the protocol's that counts.
 
 use super::message::Message;
 use super::monitor::Side;
@@ -77,11 +77,15 @@ pub fn play(device: &Table, protocol: &Table, machine: Machine, one: &Move) -> (
             }
         }
         Side::Host => {
-            if protocol.states[machine.position] != Sort::Receives {
-                return (machine, false);
+            let blamed = Machine { standing: Standing::HostBlamed, ..machine };
+            match protocol.states[machine.position] {
+                // Document 02: "The machine blames the host likewise, but at an end a host move still changes nothing."
+                Sort::Sends if protocol.edition == 2 => return (blamed, false),
+                Sort::Sends | Sort::End => return (machine, false),
+                Sort::Receives => {}
             }
             match (allows(), has()) {
-                (None, _) => (Machine { standing: Standing::HostBlamed, ..machine }, false),
+                (None, _) => (blamed, false),
                 (Some(allows), Some(takes)) => (forwarded(device, protocol, takes, allows), true),
                 (Some(_), None) => (Machine { standing: Standing::Jammed, ..machine }, false),
             }

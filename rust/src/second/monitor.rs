@@ -1,4 +1,4 @@
-//! One step of the monitor, and the due message; with the counts of document 02's request 4.
+//! One step of the monitor, and the due message; with the counts of document 02's request 4 and the early message of its request 7.
 
 use super::message::{front, read, Message};
 use super::table::{sound, sound_at, Sort, Table, MOST_BRANCHES, MOST_STATES};
@@ -12,6 +12,17 @@ pub const GREATEST_SETTING: u32 = 1000;
 pub enum Side {
     Device,
     Host,
+}
+
+impl Side {
+    pub const BOTH: [Side; 2] = [Side::Device, Side::Host];
+
+    pub fn other(self) -> Side {
+        match self {
+            Side::Device => Side::Host,
+            Side::Host => Side::Device,
+        }
+    }
 }
 
 #[derive(Clone, Copy, Debug, PartialEq, Eq)]
@@ -67,12 +78,13 @@ pub fn state_sound(table: &Table, state: &State) -> bool {
     sound_at(table, state.position) && state.counts_sound(table)
 }
 
-/// Why a sender is blamed: reasons 1, 2 and 3, the last with the first field out of its range.
+/// Why a sender is blamed: reasons 1, 2 and 3, the last with the first field out of its range; and 4, a message out of turn.
 #[derive(Clone, Copy, Debug, PartialEq, Eq)]
 pub enum Reason {
     Label,
     Kinds,
     Range(usize),
+    Early,
 }
 
 impl Reason {
@@ -81,6 +93,7 @@ impl Reason {
             Reason::Label => 1,
             Reason::Kinds => 2,
             Reason::Range(_) => 3,
+            Reason::Early => 4,
         }
     }
 }
@@ -114,10 +127,13 @@ pub fn awaited(table: &Table, state: &State) -> Result<Side, u8> {
 
 /// One step: a message of a side is refused, blamed or forwarded.
 pub fn step(table: &Table, state: &mut State, side: Side, message: &[u8], output: &mut [u8]) -> Verdict {
-    match awaited(table, state) {
+    let early = match awaited(table, state) {
         Err(question) => return Verdict::Refused(question),
-        Ok(speaker) if speaker != side => return Verdict::Refused(12),
-        Ok(_) => {}
+        Ok(speaker) => speaker != side,
+    };
+    // "Under 2, step 12 gives way to the message questions and 16."
+    if early && table.edition == 1 {
+        return Verdict::Refused(12);
     }
     let parsed = match read(message) {
         Ok(parsed) => parsed,
@@ -126,7 +142,9 @@ pub fn step(table: &Table, state: &mut State, side: Side, message: &[u8], output
     if output.len() < message.len() {
         return Verdict::Refused(16);
     }
-    match judge(table, state.position, &parsed) {
+    // "The sender is then blamed with reason 4, ahead of the others."
+    let judged = if early { Err(Reason::Early) } else { judge(table, state.position, &parsed) };
+    match judged {
         Ok(branch) => {
             output[..message.len()].copy_from_slice(message);
             state.count(state.position, branch);

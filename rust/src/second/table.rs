@@ -1,4 +1,5 @@
-//! Tables: states and branches, with the shares of document 02's request 4; question 9, the dual, and the raw form in words.
+//! Tables: states and branches, with the shares and the edition of document 02's requests 4 and 7; question 9, the dual, and the
+//! raw form in words.
 
 /// The most states of a table.
 pub const MOST_STATES: usize = 32;
@@ -132,6 +133,8 @@ impl Branch {
 pub struct Table {
     pub states: Vec<Sort>,
     pub branches: Vec<Branch>,
+    /// 1 or 2 where the table is sound.
+    pub edition: u32,
 }
 
 impl Table {
@@ -158,7 +161,9 @@ pub fn legal_label(label: &Label) -> bool {
 /// Question 9 without a position: is the table sound?
 pub fn sound(table: &Table) -> bool {
     let states = table.states.len();
-    (1..=MOST_STATES).contains(&states)
+    // "9 asks that a table's edition be 1 or 2."
+    (table.edition == 1 || table.edition == 2)
+        && (1..=MOST_STATES).contains(&states)
         && table.branches.len() <= MOST_BRANCHES
         && (0..states).all(|state| owns_rightly(table, state) && labels_differ(table, state) && shares_right(table, state))
         && table.branches.iter().all(|branch| {
@@ -221,17 +226,14 @@ pub fn dual(table: &Table) -> Result<Table, u8> {
         Sort::Sends => Sort::Receives,
         Sort::Receives => Sort::Sends,
     };
-    Ok(Table { states: table.states.iter().map(exchanged).collect(), branches: table.branches.clone() })
+    Ok(Table { states: table.states.iter().map(exchanged).collect(), ..table.clone() })
 }
-
-/// The words that a raw table has beyond its columns.
-pub const RESERVED: usize = 2;
 
 /// A table as a plain struct of words in columns, as it crosses a C boundary.
 ///
 /// State s has its sort at s (0 end, 1 sends, 2 receives). Branch b has its owner, target, field count, label (eight bytes, high
 /// byte first, in two words) and share (0 for none) at b; field f of branch b stands at 4b + f: its kind (0 int, 1 text, 2 flag),
-/// and low and high as the value plus 2^31. Entries beyond the counts mean nothing, and the reserved words never do.
+/// and low and high as the value plus 2^31. Entries beyond the counts mean nothing, and the reserved word never does.
 #[repr(C)]
 #[derive(Clone, Debug, PartialEq, Eq)]
 pub struct Raw {
@@ -247,7 +249,8 @@ pub struct Raw {
     pub low: [u32; MOST_FIELDS * MOST_BRANCHES],
     pub high: [u32; MOST_FIELDS * MOST_BRANCHES],
     pub share: [u32; MOST_BRANCHES],
-    pub reserved: [u32; RESERVED],
+    pub edition: u32,
+    pub reserved: u32,
 }
 
 impl Raw {
@@ -266,7 +269,8 @@ impl Raw {
             low: [0; MOST_FIELDS * MOST_BRANCHES],
             high: [0; MOST_FIELDS * MOST_BRANCHES],
             share: [0; MOST_BRANCHES],
-            reserved: [0; RESERVED],
+            edition: 0,
+            reserved: 0,
         }
     }
 
@@ -278,6 +282,7 @@ impl Raw {
         }
         raw.states = table.states.len() as u32;
         raw.branches = table.branches.len() as u32;
+        raw.edition = table.edition;
         for (state, sort) in table.states.iter().enumerate() {
             raw.sort[state] = sort.code().into();
         }
@@ -344,6 +349,7 @@ impl Raw {
         Some(Table {
             states: states.iter().map(|&word| Sort::of_code(byte(word)?)).collect::<Option<_>>()?,
             branches: (0..branches).map(|b| self.branch(b)).collect::<Option<_>>()?,
+            edition: self.edition,
         })
     }
 

@@ -1,5 +1,5 @@
 //! Protocol texts: tokens, grammar, and questions 1 to 8 in the order of the document, 5 as request 1 of document 02 amends it;
-//! with the shares of its request 4, and 19 and 20.
+//! with the shares of its request 4, and 19 and 20; and the editions of its request 7, and 23.
 
 use super::table::{
     choice_right, Branch, Field, Kind, Label, Sort, Table, LABEL_BYTES, MOST_BRANCHES, MOST_FIELDS, MOST_STATES, SHARES,
@@ -19,7 +19,7 @@ pub fn read(text: &[u8]) -> Result<Table, Refusal> {
         return Err((1, 0));
     }
     let mut reader = Reader { text, at: 0, table: Table::empty(), recs: Vec::new(), choices: 0 };
-    reader.read_type()?;
+    reader.opening()?;
     match reader.token()? {
         (Token::EndOfText, _) => Ok(reader.table),
         (_, place) => Err((3, place)),
@@ -28,7 +28,7 @@ pub fn read(text: &[u8]) -> Result<Table, Refusal> {
 
 #[derive(Clone, Copy, PartialEq, Eq)]
 enum Token<'a> {
-    /// `end rec int text flag`
+    /// `edition end rec int text flag`
     Word(&'a [u8]),
     /// A name or a label.
     Name(Label),
@@ -124,10 +124,38 @@ impl<'a> Reader<'a> {
         }
     }
 
-    /// "type: `end`, or a name, or `rec` name `.` type, or `+{` send branches `}`, or `&{` receive branches `}`."
-    /// Gives the state that the type means.
+    /// "A text may open with the word `edition` and 1 or 2; without it the edition is 1." Then comes the text's type.
+    fn opening(&mut self) -> Result<usize, Refusal> {
+        let (token, place) = self.token()?;
+        if token != Token::Word(b"edition") {
+            self.table.edition = 1;
+            return self.type_from(token, place);
+        }
+        self.table.edition = self.edition()?;
+        self.read_type()
+    }
+
+    /// The number after the word; asks 2, 3 and "23 at any other edition number, after 3".
+    fn edition(&mut self) -> Result<u32, Refusal> {
+        match self.token()? {
+            (Token::Number { negative, digits }, place) => match value(negative, digits) {
+                Some(1) => Ok(1),
+                Some(2) => Ok(2),
+                _ => Err((23, place)),
+            },
+            (_, place) => Err((3, place)),
+        }
+    }
+
+    /// A type. Gives the state that it means.
     fn read_type(&mut self) -> Result<usize, Refusal> {
         let (token, place) = self.token()?;
+        self.type_from(token, place)
+    }
+
+    /// "type: `end`, or a name, or `rec` name `.` type, or `+{` send branches `}`, or `&{` receive branches `}`." This is its first
+    /// token, and where it stands.
+    fn type_from(&mut self, token: Token, place: usize) -> Result<usize, Refusal> {
         match token {
             Token::Word(b"end") => self.state(Sort::End, place),
             Token::Name(name) => self.meant(name, place),
@@ -310,9 +338,9 @@ fn named(run: &[u8]) -> Option<Token<'_>> {
     Some(Token::Name(name))
 }
 
-/// "A word that begins in lower case must be one of `end rec int text flag`."
+/// "A word that begins in lower case must be one of `end rec int text flag`", and "question 2 knows the word" `edition`.
 fn worded(run: &[u8]) -> Option<Token<'_>> {
-    matches!(run, b"end" | b"rec" | b"int" | b"text" | b"flag").then_some(Token::Word(run))
+    matches!(run, b"edition" | b"end" | b"rec" | b"int" | b"text" | b"flag").then_some(Token::Word(run))
 }
 
 /// "A number is `0`, or digits without a leading zero, with an optional `-` that may not precede `0`."

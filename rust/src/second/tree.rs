@@ -1,7 +1,7 @@
 //! The types of a text as a tree, and what is open around each of them.
 //!
 //! No question is asked here. The tokens are those of a text that the grammar allows; where they break off, the tree has what is
-//! whole.
+//! whole. The edition that a text opens with stands before its tree.
 
 use super::table::Sort;
 use std::ops::Range;
@@ -31,30 +31,36 @@ pub struct Branch {
 
 /// The tokens of a text whose tokens are well formed.
 pub fn split(text: &[u8]) -> Vec<Vec<u8>> {
-    let class = |byte: u8| match byte {
-        b' ' | b'\n' => 0,
-        b'.' => 1,
-        b'-' => 2,
-        _ if byte.is_ascii_alphanumeric() => 3,
-        _ => 4,
+    let goes_on = |token: &[u8], byte: u8| match token[0] {
+        b'.' => byte == b'.',
+        b'-' | b'0'..=b'9' => byte.is_ascii_digit(),
+        first => first.is_ascii_alphabetic() && byte.is_ascii_alphanumeric(),
     };
     let mut tokens: Vec<Vec<u8>> = Vec::new();
-    let mut before = 0;
+    let mut apart = true;
     for &byte in text {
-        let now = class(byte);
+        let blank = matches!(byte, b' ' | b'\n');
         match tokens.last_mut() {
-            Some(token) if (before == now && (now == 1 || now == 3)) || (before == 2 && now == 3) => token.push(byte),
-            _ if now > 0 => tokens.push(vec![byte]),
+            Some(token) if !apart && goes_on(token, byte) => token.push(byte),
+            _ if !blank => tokens.push(vec![byte]),
             _ => {}
         }
-        before = now;
+        apart = blank;
     }
     tokens
 }
 
+/// How many tokens the edition takes that a text opens with: two, or none where it opens with none.
+pub fn opening(tokens: &[Vec<u8>]) -> usize {
+    match tokens.first() {
+        Some(word) if word == b"edition" => tokens.len().min(2),
+        _ => 0,
+    }
+}
+
 /// The tree of a text's tokens; none where they break off before a type is there.
 pub fn tree(tokens: &[Vec<u8>]) -> Option<Type> {
-    Tokens { tokens, at: 0 }.read_type()
+    Tokens { tokens, at: opening(tokens) }.read_type()
 }
 
 struct Tokens<'a> {

@@ -26,7 +26,7 @@ const NO_ESTIMATE: u64 = 0xFFFF;
 
 #[test]
 fn tables() {
-    run("tables", 110);
+    run("tables", 150);
 }
 
 #[test]
@@ -36,7 +36,7 @@ fn messages() {
 
 #[test]
 fn texts() {
-    run("texts", 680);
+    run("texts", 930);
 }
 
 #[test]
@@ -46,12 +46,12 @@ fn monitor() {
 
 #[test]
 fn fits() {
-    run("fits", 240);
+    run("fits", 270);
 }
 
 #[test]
 fn reports() {
-    run("reports", 155);
+    run("reports", 165);
 }
 
 #[test]
@@ -62,6 +62,11 @@ fn batches() {
 #[test]
 fn counts() {
     run("counts", 110);
+}
+
+#[test]
+fn editions() {
+    run("editions", 110);
 }
 
 #[test]
@@ -160,6 +165,7 @@ impl Run<'_> {
             'q' => self.read(&bytes(given))[..4].to_vec(),
             'r' => self.read(&bytes(given)),
             'l' => self.read_shares(&bytes(given)),
+            'a' => self.read_edition(&bytes(given)),
             'x' => self.fit(given, true),
             'y' => self.fit(given, false)[..2].to_vec(),
             'o' => self.report(given),
@@ -209,6 +215,7 @@ impl Run<'_> {
     fn dual(&self, table: &Raw) -> Vec<u64> {
         let (question, once) = self.calls.dual(table);
         let (_, twice) = self.calls.dual(&once);
+        assert!([once.edition, twice.edition].iter().all(|&edition| edition == if question == 0 { table.edition } else { 0 }));
         let mut numbers = vec![question.into(), once.states, once.branches];
         numbers.extend(&once.sort[..4]);
         numbers.push(twice.states);
@@ -246,6 +253,14 @@ impl Run<'_> {
         match self.calls.read(text) {
             Ok(raw) => [0, 0].into_iter().chain(raw.share[..raw.branches as usize].iter().map(|&share| share.into())).collect(),
             Err((question, place)) => vec![question.into(), place as u64],
+        }
+    }
+
+    /// The question and its place, or 0 and 0, and the edition; of a text that is refused, 0.
+    fn read_edition(&self, text: &[u8]) -> Vec<u64> {
+        match self.calls.read(text) {
+            Ok(raw) => vec![0, 0, raw.edition.into()],
+            Err((question, place)) => vec![question.into(), place as u64, 0],
         }
     }
 
@@ -380,7 +395,7 @@ fn answer(verdict: Verdict) -> [u64; 4] {
         Verdict::Blamed(party, reason) => {
             let field = match reason {
                 Reason::OutOfRange(field) => field.into(),
-                Reason::NoLabel | Reason::OtherKinds => NO_FIELD,
+                Reason::NoLabel | Reason::OtherKinds | Reason::Early => NO_FIELD,
             };
             [1, party as u64, reason.number().into(), field]
         }
@@ -458,6 +473,7 @@ fn edited(table: &Raw, edits: &[u64]) -> Raw {
             8 => table.low[index] = word(value),
             9 => table.high[index] = word(value),
             10 => table.share[index] = word(value),
+            11 => table.edition = word(value),
             column => panic!("no such column: {column}"),
         }
     }

@@ -155,7 +155,7 @@ pub fn conversation(random: &mut Random, table: &Table, turns: usize, faults: us
     for _ in 0..turns {
         let position = state.position;
         let own = table.branches_of(position);
-        let mut side = turn(table.states[position]).unwrap_or(*random.pick(&[Side::Device, Side::Host]));
+        let mut side = turn(table.states[position]).unwrap_or(*random.pick(&Side::BOTH));
         let mut message = if own.is_empty() {
             any_message(random).bytes()
         } else {
@@ -166,7 +166,7 @@ pub fn conversation(random: &mut Random, table: &Table, turns: usize, faults: us
         if faults > 0 && random.one_in(faults) {
             match random.below(6) {
                 0 => room = random.below(message.len() + 1),
-                1 => side = if side == Side::Device { Side::Host } else { Side::Device },
+                1 => side = side.other(),
                 2 | 3 => message = damaged_message(random, &message),
                 _ => message = faulty_message(random, table, position),
             }

@@ -4,6 +4,7 @@
 //! is so by construction; what is damaged may still be legal, and is to be asked.
 
 mod batches;
+mod editions;
 mod messages;
 mod names;
 mod pairs;
@@ -15,6 +16,7 @@ mod utf8;
 mod ways;
 
 pub use batches::*;
+pub use editions::*;
 pub use messages::*;
 pub use names::*;
 pub use pairs::*;

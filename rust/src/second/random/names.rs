@@ -2,7 +2,7 @@
 
 use super::{joined, tokens, Limits, Random};
 use crate::second::text::{read, MOST_OPEN};
-use crate::second::tree::{tree, Open, Place};
+use crate::second::tree::{opening, tree, Open, Place};
 
 /// Names for `rec`s; few, so that one often hides another.
 pub(super) const NAMES: [&[u8]; 7] = [b"X", b"Y", b"Z", b"A", b"Xx", b"Abcdefgh", b"Loop9"];
@@ -12,11 +12,12 @@ pub(super) fn rec_of(name: &[u8]) -> [Vec<u8>; 3] {
     [b"rec".to_vec(), name.to_vec(), b".".to_vec()]
 }
 
-/// A type replaced by `rec`s with a name after them, a `rec` put before the whole text at times: questions 4 and 5, and texts that
+/// A type replaced by `rec`s with a name after them, a `rec` put before the whole type at times: questions 4 and 5, and texts that
 /// are read. Now and then the type stands on behind its first token.
 pub fn put_name_after_recs(random: &mut Random, tokens: &mut Vec<Vec<u8>>) {
     if random.one_in(2) {
-        tokens.splice(0..0, rec_of(random.pick::<&[u8]>(&NAMES)));
+        let first = opening(tokens);
+        tokens.splice(first..first, rec_of(random.pick::<&[u8]>(&NAMES)));
     }
     let Some(tree) = tree(tokens) else {
         return;

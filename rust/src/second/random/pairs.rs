@@ -5,8 +5,8 @@ use super::tables::branch_for;
 use super::texts::STRANGE_TOKENS;
 use super::ways::said_and_taken;
 use super::{
-    fields, joined, label, mend_shares, named_tokens, number_of, other_shares, put_name_after_recs, some_shares, sound_table,
-    tokens, without_shares, Limits, Random, LABELS,
+    edition, fields, joined, label, mend_shares, named_tokens, number_of, other_shares, put_name_after_recs, reopened,
+    some_shares, sound_table, tokens, without_shares, Limits, Random, LABELS,
 };
 use crate::second::table::{sound, Branch, Field, Sort, Table, MOST_BRANCHES, MOST_FIELDS, MOST_STATES};
 use crate::second::text::{read, LONGEST_PROTOCOL};
@@ -112,13 +112,14 @@ fn change_one(random: &mut Random, table: &mut Table) {
 }
 
 /// A device's table and a protocol's, related: the device comes from the protocol by fitting changes and, half of the time, one or
-/// two of any sort; one in three has other shares. Now and then the two have nothing to do with one another.
+/// two of any sort; one in three has other shares, and each has either edition. Now and then the two have nothing to do with one
+/// another.
 pub fn table_pair(random: &mut Random, most_states: usize, most_branches: usize) -> (Table, Table) {
     let protocol = sound_table(random, most_states, most_branches);
     if random.one_in(12) {
         return (sound_table(random, most_states, most_branches), protocol);
     }
-    let mut device = protocol.clone();
+    let mut device = Table { edition: edition(random), ..protocol.clone() };
     for _ in 0..random.below(4) {
         device = fitting_change(random, &device);
     }
@@ -151,10 +152,11 @@ pub fn named_pair(random: &mut Random) -> (Vec<u8>, Vec<u8>) {
     related_texts(random, &protocol)
 }
 
-/// A device's text that is the protocol's, at times without its shares, with a few tokens changed, or a type replaced by a name;
-/// and the protocol's.
+/// A device's text that is the protocol's, at times without its shares, with either edition or none, with a few tokens changed, or a
+/// type replaced by a name; and the protocol's.
 fn related_texts(random: &mut Random, protocol: &[Vec<u8>]) -> (Vec<u8>, Vec<u8>) {
     let mut device = if random.one_in(3) { without_shares(protocol) } else { protocol.to_vec() };
+    device = reopened(random, &device);
     let changes = random.below(4);
     let mut made = 0;
     for _ in 0..60 {
@@ -226,7 +228,7 @@ pub fn cycle_pair(random: &mut Random) -> (Table, Table) {
 
 /// States of one sort in a cycle, each with a branch to the next and perhaps another; the branches in any order.
 fn cycle(random: &mut Random, length: usize, sort: Sort, step: &Branch, more: impl Fn(usize) -> Option<Branch>) -> Table {
-    let mut table = Table { states: vec![sort; length], branches: Vec::new() };
+    let mut table = Table { states: vec![sort; length], branches: Vec::new(), edition: edition(random) };
     for owner in 0..length {
         let target = (owner + 1) % length;
         let all = std::iter::once(step.clone()).chain(more(owner));

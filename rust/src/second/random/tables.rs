@@ -1,10 +1,10 @@
 //! Tables: sound, damaged in one entry, with anything where nothing counts, and any.
 
-use super::{fields, label, some_shares, Random};
+use super::{edition, fields, label, some_shares, Random};
 use crate::second::table::{Branch, Label, Raw, Sort, Table, LABEL_BYTES, MOST_BRANCHES, MOST_FIELDS, MOST_STATES};
 
 /// A sound table of at most so many states (1 to 32) and branches (0 to 128). Owners and targets are any, as no text has them.
-/// State 0 is seldom an end. Half of them have choices with shares.
+/// State 0 is seldom an end. Half of them have choices with shares, and half are of edition 2.
 pub fn sound_table(random: &mut Random, most_states: usize, most_branches: usize) -> Table {
     table_with_ends(random, most_states, most_branches, 5)
 }
@@ -19,7 +19,7 @@ fn table_with_ends(random: &mut Random, most_states: usize, most_branches: usize
     let count = 1 + random.below(most_states.clamp(1, MOST_STATES));
     let most_branches = most_branches.min(MOST_BRANCHES);
     let mut choices = Vec::new();
-    let mut table = Table::empty();
+    let mut table = Table { edition: edition(random), ..Table::empty() };
     for state in 0..count {
         let end = ends > 0 && random.one_in(ends) && (state > 0 || random.one_in(4));
         if !end && choices.len() < most_branches {
@@ -64,8 +64,8 @@ pub(super) fn branch_for(random: &mut Random, table: &Table, owner: usize) -> Br
 }
 
 /// The columns of a raw table, by number: states, branches, sort, owner, target, fields, label (both words), kind, low, high,
-/// share.
-pub const COLUMNS: usize = 11;
+/// share, edition.
+pub const COLUMNS: usize = 12;
 
 /// The raw table with one entry of a column changed, to a number that is telling there, mostly of an entry that counts. What
 /// comes out is mostly, not always, unsound.
@@ -97,7 +97,8 @@ pub fn damaged_table(random: &mut Random, raw: &Raw, column: usize) -> Raw {
         7 => raw.kind[place] = near(random, raw.kind[place]),
         8 => raw.low[place] = telling_number(random, raw.low[place], raw.high[place]),
         9 => raw.high[place] = telling_number(random, raw.low[place], raw.high[place]),
-        _ => damage_share(random, &mut raw, branch),
+        10 => damage_share(random, &mut raw, branch),
+        _ => raw.edition = near(random, raw.edition),
     }
     raw
 }
@@ -154,7 +155,7 @@ fn telling_number(random: &mut Random, low: u32, high: u32) -> u32 {
     random.pick(&ends).wrapping_add(random.pick(&[0, 1, u32::MAX]).to_owned())
 }
 
-/// The raw table with anything in the entries beyond its counts and in the reserved words, which mean nothing. Now and then it is
+/// The raw table with anything in the entries beyond its counts and in the reserved word, which mean nothing. Now and then it is
 /// what an entry that counts says.
 pub fn with_noise(random: &mut Random, raw: &Raw) -> Raw {
     let mut raw = raw.clone();
@@ -180,7 +181,7 @@ pub fn with_noise(random: &mut Random, raw: &Raw) -> Raw {
             raw.high[place] = junk(random);
         }
     }
-    raw.reserved.fill_with(|| junk(random));
+    raw.reserved = junk(random);
     raw
 }
 
@@ -199,6 +200,7 @@ pub fn any_raw(random: &mut Random) -> Raw {
     let mut raw = with_noise(random, &Raw::empty());
     raw.states = junk(random);
     raw.branches = junk(random);
+    raw.edition = *random.pick(&[0, 1, 2, 3, u32::MAX]);
     match random.below(4) {
         0 => {}
         1 => raw.states %= 40,

@@ -1,7 +1,7 @@
 //! Texts: legal, nearly legal, and any.
 
 use super::names::{put_name_after_recs, rec_of, NAMES};
-use super::{damaged_shares, fields, label, shares, Random};
+use super::{any_opening, damaged_opening, damaged_shares, fields, label, shares, Random};
 use crate::second::table::{Kind, Label, MOST_BRANCHES, MOST_FIELDS, MOST_STATES};
 use crate::second::text::{LONGEST_PROTOCOL, MOST_OPEN};
 
@@ -32,13 +32,14 @@ impl Limits {
     }
 }
 
-/// The tokens of a text that the grammar and questions 2 to 7, 19 and 20 allow, and 8 as well when the limits are the document's or
-/// less. One choice in three has shares.
+/// The tokens of a text that the grammar and questions 2 to 7, 19, 20 and 23 allow, and 8 as well when the limits are the document's
+/// or less. It opens with either edition or none. One choice in three has shares.
 pub fn tokens(random: &mut Random, limits: Limits) -> Vec<Vec<u8>> {
+    let tokens = any_opening(random);
     let mut growth = Growth {
         random,
         limits,
-        tokens: Vec::new(),
+        tokens,
         bound: Vec::new(),
         choices: 0,
         states_left: limits.states.max(1) - 1,
@@ -194,16 +195,19 @@ impl Growth<'_> {
     }
 }
 
-/// Tokens as a text, blanks before, between and after them at times, and where two words would run together. The meaning of the
-/// text does not depend on the blanks.
+/// Tokens as a text, blanks before, between and after them at times, and where two words would run together; between a number and a
+/// word, which do not, half of the time. The meaning of the text does not depend on the blanks.
 pub fn joined(random: &mut Random, tokens: &[Vec<u8>]) -> Vec<u8> {
     let often = *random.pick(&[0, 0, 20, 2]);
-    let mut text = Vec::new();
+    let mut text: Vec<u8> = Vec::new();
+    let mut number = false;
     for token in tokens {
         let word = |byte: Option<&u8>| byte.is_some_and(|byte| byte.is_ascii_alphanumeric());
-        if word(text.last()) && word(token.first()) {
+        let apart = number && token.first().is_some_and(u8::is_ascii_alphabetic);
+        if word(text.last()) && word(token.first()) && !(apart && random.one_in(2)) {
             text.push(b' ');
         }
+        number = token.iter().all(u8::is_ascii_digit);
         if often > 0 && random.one_in(often) {
             blanks(random, &mut text);
         }
@@ -234,7 +238,7 @@ pub fn legal_text(random: &mut Random) -> Vec<u8> {
 }
 
 /// Tokens to put in a text's way: every sign and word, names, numbers at the ends of the kinds, and malformed ones.
-pub(super) const STRANGE_TOKENS: [&[u8]; 67] = [
+pub(super) const STRANGE_TOKENS: [&[u8]; 71] = [
     b"+",
     b"&",
     b"{",
@@ -251,6 +255,10 @@ pub(super) const STRANGE_TOKENS: [&[u8]; 67] = [
     b"..",
     b"...",
     b"....",
+    b"edition",
+    b"edition1",
+    b"editions",
+    b"Edition",
     b"end",
     b"rec",
     b"int",
@@ -305,20 +313,21 @@ pub(super) const STRANGE_TOKENS: [&[u8]; 67] = [
 ];
 
 /// Bytes that mean something in a text, or nearly.
-const TELLING_BYTES: &[u8] = b"+&{}()[],!?@..--0019AZaz \n\t#endrcitxflgXYB_\0\x7F\x80\xFF";
+const TELLING_BYTES: &[u8] = b"+&{}()[],!?@..--00129AZaz \n\t#endrcitoxflgXYB_\0\x7F\x80\xFF";
 
 /// A text that is legal but for one change (which may leave it legal): a byte changed, dropped, inserted or doubled; a token
 /// replaced by any or by one of its class, dropped, inserted, doubled, or exchanged with another; a type replaced by a name after
-/// `rec`s; a share changed; cut off; grown beyond the limits; or filled up with blanks to about 8,192 bytes.
+/// `rec`s; a share or the opening changed; cut off; grown beyond the limits; or filled up with blanks to about 8,192 bytes.
 pub fn nearly_legal_text(random: &mut Random) -> Vec<u8> {
     let limits = Limits::any(random);
     let mut tokens = tokens(random, limits);
     let place = random.below(tokens.len());
-    match random.below(19) {
+    match random.below(21) {
         0 | 1 => tokens[place] = random.pick(&STRANGE_TOKENS).to_vec(),
         2 | 13 => put_name_after_recs(random, &mut tokens),
         9..=12 => replace_by_its_class(random, &mut tokens),
         14..=16 => damaged_shares(random, &mut tokens),
+        17 | 18 => damaged_opening(random, &mut tokens),
         3 => {
             tokens.remove(place);
         }

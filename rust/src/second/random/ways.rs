@@ -1,6 +1,6 @@
 //! Pairs of tables that fail in two ways with one move between them: the shorter one by two states that differ in sort.
 
-use super::{field, fields, label, some_shares, Random};
+use super::{edition, field, fields, label, some_shares, Random};
 use crate::second::table::{Branch, Field, Kind, Label, Sort, Table, MOST_FIELDS, MOST_STATES};
 
 /// A way to a choice of which one branch leads to two states that differ in sort, and another to two of one sort where what is
@@ -93,7 +93,7 @@ fn choice(random: &mut Random) -> Sort {
 
 /// So many steps to a state that has no branch yet, with branches back and to the end, which is the state after that.
 fn chain(random: &mut Random, way: usize, most_fields: usize) -> Table {
-    let mut table = Table { states: (0..=way).map(|_| choice(random)).collect(), branches: Vec::new() };
+    let mut table = Table { states: (0..=way).map(|_| choice(random)).collect(), branches: Vec::new(), edition: 1 };
     table.states.push(Sort::End);
     for owner in 0..way {
         let step = branch(random, &[], most_fields);
@@ -178,19 +178,19 @@ fn coprime(random: &mut Random, longest: usize) -> (usize, usize) {
 
 /// So many states of one sort, each with a branch like this one to the next.
 fn cycle(length: usize, sort: Sort, step: &Branch) -> Table {
-    let mut table = Table { states: vec![sort; length], branches: Vec::new() };
+    let mut table = Table { states: vec![sort; length], branches: Vec::new(), edition: 1 };
     for owner in 0..length {
         lead(&mut table, owner, step, (owner + 1) % length);
     }
     table
 }
 
-/// The table with its states, but for the first, and its branches in another order; at times with shares.
+/// The table under either edition, with its states, but for the first, and its branches in another order; at times with shares.
 fn finished(random: &mut Random, table: Table) -> Table {
     let mut places: Vec<usize> = (1..table.states.len()).collect();
     random.shuffle(&mut places);
     places.insert(0, 0);
-    let mut new = table.clone();
+    let mut new = Table { edition: edition(random), ..table.clone() };
     for (state, &place) in places.iter().enumerate() {
         new.states[place] = table.states[state];
     }
