@@ -21,7 +21,7 @@ use Rattle.message.specs.Rules.{table-rules, judge-said}
 use Rattle.table.specs.declared.Party.{Party}
 use Rattle.table.specs.declared.Party.the-variants.{Device, Host}
 use Rattle.monitor.specs.declared.Standing.the-variants.{Running, DeviceBlamed, HostBlamed}
-use Rattle.monitor.proofs.Asking.{asked-then, all-well, not-formed, no-room, not-its-turn, refused-step, judged-as, may-speak}
+use Rattle.monitor.proofs.Asking.{asked-then, all-well, not-formed, no-room, not-its-turn, refused-step, judged-as}
 use Rattle.examples.specs.Twelve.{ask, ok, gives}
 use Rattle.table.specs.Table as T
 use Rattle.monitor.specs.Step as S
@@ -45,7 +45,7 @@ module _ (t : Words) (e : ℕ) (sound : sound-of t ≡ true) (states : states-of
       asked-then t S.fresh side message room P-open ∙ ap (λ t. first-no (S.of-message (t .edition) (sort t 0) side message room)) seen
 
   -- a message that is judged, and one that is refused
-  judged : (side : Party) (message out : List ℕ) (j : Judgement ℕ) → may-speak e sends side ≡ true → refusal message ≡ 0
+  judged : (side : Party) (message out : List ℕ) (j : Judgement ℕ) → S.may-speak e sends side ≡ true → refusal message ≡ 0
       → length message ≤ length out → judge-said (table-rules (R.P-under e)) 0 (record { side = side; message = read message }) ≡ j
       → S.stepping t S.fresh side message out ≡ S.judging j S.fresh side message out
   unfolding S.fresh

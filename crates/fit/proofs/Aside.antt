@@ -7,7 +7,7 @@ use mathlib.Core.Option.{Option, none}
 use Prim.Native.Nat.{ℕ}
 use lib.ListN.{length}
 use Rattle.table.specs.Lists.{first-no}
-use Rattle.table.specs.Table.{Sort, ends, sends, receives, Table, sort, plain-under}
+use Rattle.table.specs.Table.{Sort, ends, sends, receives, Table, sort}
 use Rattle.table.specs.View.{Words, view, EditionAside}
 use Rattle.table.proofs.Aside.{same-states, editions-too}
 use Rattle.message.specs.Judge.{allows, judge}
@@ -27,8 +27,7 @@ abbrev with : Table → List ℕ → ℕ → Table
 with t w e = record { sorts = t .sorts; branches = t .branches; shares = w; edition = e }
 
 with-view : (t u : Words) → EditionAside t u → with (view t) (view u .shares) (view u .edition) ≡ view u
-unfolding plain-under
-with-view t u h = ap (λ x. with x (view u .shares) (view u .edition)) (h .same)
+with-view t u h = ap₂ (λ s b. record { sorts = s; branches = b; shares = view u .shares; edition = view u .edition }) (h .sorts) (h .branches)
 
 -- ---- the machine
 

@@ -12,7 +12,7 @@ use Rattle.table.specs.Table.{Sort, ends, Branch, is-choice, Table, sort, of-ch
 use Rattle.table.specs.View.{Words, states-of, branches-of, view, SharesAside, EditionAside}
 use Rattle.table.specs.declared.Party.{Party}
 use Rattle.table.specs.declared.Party.the-variants.{Device, Host}
-use Rattle.table.proofs.Aside.{editions-too, same-sorts, same-branches, same-sort, same-states, same-count, same-sound}
+use Rattle.table.proofs.Aside.{editions-too, same-sort, same-states, same-count, same-sound}
 use Rattle.message.specs.Message.{Message, read}
 use Rattle.message.specs.Judge.{selected, judge}
 use Rattle.message.specs.Rules.{Said, table-rules, judge-said}
@@ -34,11 +34,11 @@ module _ (t u : Words) (h : SharesAside t u) where
 
   same-judge : (i : ℕ) (m : Message) → judge (view t) i m ≡ judge (view u) i m
   unfolding judge
-  same-judge i m = rw (same-branches t u a)
+  same-judge i m = rw (a .branches)
 
   same-chosen : (i : ℕ) (m : Message) → selected (view t) i m ≡ selected (view u) i m
   unfolding selected
-  same-chosen i m = rw (same-branches t u a)
+  same-chosen i m = rw (a .branches)
 
   same-edition : view t .edition ≡ view u .edition
   unfolding unshared
@@ -135,7 +135,7 @@ module _ (t u : Words) (h : SharesAside t u) where
   same-nine : (c : Counts) → counts-sound t c ≡ counts-sound u c
   unfolding counts-sound adds-up sort
   same-nine c =
-      ap₂ (λ a b. nine-by c a b (states-of t) (branches-of t)) (same-sorts t u a) (same-branches t u a)
+      ap₂ (λ a b. nine-by c a b (states-of t) (branches-of t)) (a .sorts) (a .branches)
       ∙ ap₂ (nine-by c (view u .sorts) (view u .branches)) (same-states t u a) (same-count t u a)
 
 pub shares-unseen : SharesUnseen

@@ -19,13 +19,13 @@ use Rattle.message.specs.Judge.{Judgement, forbidden, names, same-kind, first-o
 use Rattle.message.specs.Rules.{Rules, table-rules, Said, turn, next, judge-said}
 use Rattle.message.proofs.Judging.{some-eq}
 use Rattle.monitor.specs.declared.State.{State}
-use Rattle.monitor.specs.Step.{step-questions, blamed, Outcome, refusing, blaming, forwarding, stepping}
+use Rattle.monitor.specs.Step.{may-speak, step-questions, blamed, Outcome, refusing, blaming, forwarding, stepping}
 use Rattle.monitor.specs.Due.{of-side, awaited}
 use Rattle.monitor.specs.Conversation.{Sent, Event, event, said-by, Judgeable, Early, EarlyBlamed, NoneEarly}
 use Rattle.monitor.specs.Batch.{Batch}
 use Rattle.monitor.specs.Batches.{Left, Single, Singly, none-due, stops, goes-on, Batches, no-more, taken-in, turned-away}
 use Rattle.monitor.specs.Batches.{InTurn, DueInTurn, BatchesInTurn}
-use Rattle.monitor.proofs.Asking.{may-speak, formed-then, asked-then, edition-is, said-in-turn, said-early, Way, refuses, forwards, blames, way}
+use Rattle.monitor.proofs.Asking.{formed-then, asked-then, edition-is, said-in-turn, said-early, Way, refuses, forwards, blames, way}
 use Rattle.monitor.proofs.Waiting.{open-here, speaks-here, due-heard}
 use Rattle.monitor.proofs.Demand.{heard-where, refused-forwarded, refused-blamed, forwarded-blamed, refused-eq, blamed-eq}
 use Rattle.monitor.proofs.Demand.{demand-two, cons-eq, nil-cons}

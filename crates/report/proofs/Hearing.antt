@@ -19,9 +19,9 @@ use Rattle.monitor.specs.declared.Stepped.{Stepped}
 use Rattle.monitor.specs.declared.Reason.the-variants.{NoLabel, OtherKinds, OutOfRange, Early}
 use Rattle.monitor.specs.declared.Verdict.{Verdict}
 use Rattle.monitor.specs.declared.Verdict.the-variants.{Refused, Blamed, Forwarded}
-use Rattle.monitor.specs.Step.{step-questions, blamed, forwarded, told, Outcome, forwarding, blaming, judging, stepping, outcome}
+use Rattle.monitor.specs.Step.{may-speak, step-questions, blamed, forwarded, told, Outcome, forwarding, blaming, judging, stepping, outcome}
 use Rattle.monitor.specs.Counts.{Counts, counts-sound, legal-setting, start-questions, starting, counted-step}
-use Rattle.monitor.proofs.Asking.{turn-its, may-speak}
+use Rattle.monitor.proofs.Asking.{turn-its}
 use Rattle.monitor.proofs.Raising.{fresh-sound}
 use Rattle.together.specs.Together.{running-at}
 use Rattle.together.proofs.Together.{asks, turn, judged-some, judged-none}

@@ -129,7 +129,8 @@ pub record SharesAside (t u : Words) : Type 0 where
 pub record EditionAside (t u : Words) : Type 0 where
   pub one : sound-of t ≡ true
   pub other : sound-of u ≡ true
-  pub same : T.plain-under 1 (view t) ≡ T.plain-under 1 (view u)
+  pub sorts : view t .sorts ≡ view u .sorts
+  pub branches : view t .branches ≡ view u .branches
 
 -- ---- the dual
 
