@@ -3,7 +3,7 @@
 //! [`proved`] is the product: the proved code of the static library `libsojimu.a` behind safe types, all of which stand here
 //! too. [`second`] is a second implementation of the document, in safe Rust and written from the document alone. It is there to be
 //! compared with: [`compare`] puts both through the same random inputs, and a disagreement is a fault of one of them.
-//! [`bench`](mod@bench) has what the proved code is timed against.
+//! [`bench`](mod@bench) has what the proved code is timed against. [`tool`] is the program `sojimu`.
 //!
 //! ```
 //! use sojimu::{Party, Table, Verdict};
@@ -26,5 +26,6 @@ pub mod compare;
 pub mod proved;
 #[allow(missing_docs)]
 pub mod second;
+pub mod tool;
 
 pub use proved::*;

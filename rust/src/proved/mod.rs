@@ -24,6 +24,6 @@ pub use message::LONGEST_MESSAGE;
 pub use monitor::{Due, Party, Reason, Standing, State, Verdict};
 pub use question::{Question, Refusal};
 pub use report::{report, report_into, LONGEST_REPORT};
-pub use table::{Table, MOST_BRANCHES, MOST_FIELDS, MOST_STATES};
+pub use table::{Table, LONGEST_PROTOCOL, MOST_BRANCHES, MOST_FIELDS, MOST_OPEN, MOST_STATES};
 pub use version::{matches, version, VERSION};
 pub use warning::Warning;

@@ -89,6 +89,20 @@ impl Reason {
             Reason::Early => 4,
         }
     }
+
+    /// The reason in words.
+    ///
+    /// ```
+    /// assert_eq!(sojimu::Reason::OutOfRange(0).words(), "a number is outside its range");
+    /// ```
+    pub fn words(self) -> &'static str {
+        match self {
+            Reason::NoLabel => "the protocol has no such label there",
+            Reason::OtherKinds => "the count or the kinds of the fields differ",
+            Reason::OutOfRange(_) => "a number is outside its range",
+            Reason::Early => "it is the other side's turn, under edition 2",
+        }
+    }
 }
 
 /// What a step says of a message.

@@ -8,6 +8,10 @@ pub const MOST_STATES: usize = 32;
 pub const MOST_BRANCHES: usize = 128;
 /// The most fields of a branch.
 pub const MOST_FIELDS: usize = 4;
+/// The most choices and `rec`s that stand open around one another in a text.
+pub const MOST_OPEN: usize = 16;
+/// The most bytes of a protocol text.
+pub const LONGEST_PROTOCOL: usize = 8192;
 
 /// A session type as columns of words, 9,360 bytes.
 ///
