@@ -71,7 +71,7 @@ fn pages() -> (String, Vec<u8>, String) {
     let readme = std::fs::read_to_string(root().join("examples/README.md")).unwrap();
     let block = readme.split("```text\n").nth(1).unwrap().split("```").next().unwrap().to_string();
     let protocol = std::fs::read(root().join("examples/shares/protocol.txt")).unwrap();
-    (block, protocol, std::fs::read_to_string(root().join("examples/shares/scans.log")).unwrap())
+    (block, protocol, std::fs::read_to_string(root().join("examples/shares/scans.moves")).unwrap())
 }
 
 #[test]
