@@ -8,10 +8,13 @@ use super::play::{play, Fate, Move, Played};
 use super::style::Style;
 use super::text::{columns, padded, Text};
 use super::{not_drawn, refuse, refused, said, words, write_picture, Ending, Status, Trouble, World};
-use crate::proved::{self, Fitting, Party, LONGEST_LIST};
+use crate::proved::{self, Fitting, Party, Reason, LONGEST_LIST};
 
 /// How wide the messages of the moves are set at most.
 const WIDE: usize = 44;
+
+/// The texts, by the party that each speaks for.
+const TEXTS: [(Party, &str); 2] = [(Party::Host, "protocol"), (Party::Device, "device")];
 
 /// Two texts that were read, and what the fit check says of them.
 struct Checked {
@@ -88,7 +91,7 @@ impl Checked {
             Answer::Fits { pairs } => {
                 let fits = style.good(&format!("{device} fits {protocol}."));
                 let met = words::counted(*pairs, "pair of states is met", "pairs of states are met");
-                format!("{fits}\nWhatever the two sides say, it is never blamed and the two never jam; {met}.\n")
+                format!("{fits}\nAs long as it keeps to its text it is never blamed, and the two never jam, whatever the host says; {met}.\n")
             }
             Answer::Fails(played) => {
                 let heading = style.strong(&format!("{device} does not fit {protocol}."));
@@ -112,21 +115,28 @@ impl Checked {
         }
     }
 
+    /// The text that speaks for a party: the device's own, and the protocol for the host.
+    fn described(&self, party: Party) -> &Described {
+        match party {
+            Party::Device => &self.device,
+            Party::Host => &self.protocol,
+        }
+    }
+
     /// Where a move stands in the texts.
     fn lines(&self, one: &Move) -> String {
-        let line = |whose: &str, described: &Described, branch: Option<usize>| {
-            branch.map(|branch| format!("{whose} line {}", described.line(Mark::Branch(branch))))
+        let line = |(party, whose): (Party, &str)| {
+            Some(format!("{whose} line {}", self.described(party).line(Mark::Branch(one.branch(party)?))))
         };
-        let both = [line("protocol", &self.protocol, one.protocol_branch), line("device", &self.device, one.device_branch)];
-        both.into_iter().flatten().collect::<Vec<String>>().join(", ")
+        TEXTS.into_iter().filter_map(line).collect::<Vec<String>>().join(", ")
     }
 
     /// What the moves come to, whose fault it is, and the places in both texts.
     fn fault(&self, played: &Played, style: Style) -> String {
         let ending = style.fault(&format!("{}:", played.fate.word()));
         let mut all = format!("{ending} {}\nThe fault is the device's.\n", self.why(played));
-        for (whose, described, party) in [("protocol", &self.protocol, Party::Host), ("device", &self.device, Party::Device)] {
-            let mark = mark(played, party);
+        for (party, whose) in TEXTS {
+            let (described, mark) = (self.described(party), mark(played, party));
             let address = style.strong(&format!("{whose}, {}", described.address(mark)));
             all += &format!("\n{address}\n");
             let before = before(played, party).filter(|&branch| described.line(branch) != described.line(mark));
@@ -137,32 +147,38 @@ impl Checked {
     }
 
     fn why(&self, played: &Played) -> String {
-        match (played.fate, played.moves.last()) {
-            (Fate::Blamed(reason), Some(last)) => {
-                let why = words::forbidden(reason, &self.protocol, played.protocol_state, &last.message, "the protocol");
-                format!("the device sends what the protocol forbids: {why}.")
+        let forbidden = |reason: Reason, party: Party, whose: &str| {
+            let message = played.moves.last().map_or(&[][..], |last| &last.message);
+            words::forbidden(reason, self.described(party), played.state(party), message, whose)
+        };
+        match played.fate {
+            Fate::Blamed(reason) => {
+                format!("the device sends what the protocol forbids: {}.", forbidden(reason, Party::Host, "the protocol"))
             }
-            (Fate::NotTaken(reason), Some(last)) => {
-                let why = words::forbidden(reason, &self.device, played.device_state, &last.message, "the device");
-                format!("the device does not take what the host may send: {why}.")
+            Fate::NotTaken(reason) => {
+                format!("the device does not take what the host may send: {}.", forbidden(reason, Party::Device, "the device"))
             }
-            _ => {
-                let device = device_waits(words::speaker(&self.device.table, played.device_state));
-                format!("{device}, and {}.", turn_of(words::speaker(&self.protocol.table, played.protocol_state)))
-            }
+            Fate::OutOfStep => format!("{}, and {}.", self.turn(played, Party::Device), self.turn(played, Party::Host)),
         }
     }
 
-    /// What is said at the mark in the text that speaks for a party: the device's own, or the protocol for the host.
+    /// Whose turn it is at the end, by the text that speaks for a party.
+    fn turn(&self, played: &Played, party: Party) -> &'static str {
+        match (party, words::speaker(&self.described(party).table, played.state(party))) {
+            (Party::Device, Some(Party::Device)) => "the device means to send",
+            (Party::Device, Some(Party::Host)) => "the device waits for the host",
+            (Party::Device, None) => "the device has ended",
+            (Party::Host, Some(Party::Device)) => "by the protocol it is the device's turn",
+            (Party::Host, Some(Party::Host)) => "by the protocol it is the host's turn",
+            (Party::Host, None) => "the protocol has ended",
+        }
+    }
+
+    /// What is said at the mark in the text that speaks for a party.
     fn note(&self, played: &Played, party: Party) -> String {
         let label = played.moves.last().map_or(String::new(), |last| said::label(&last.message));
         match (played.fate, mark(played, party), party) {
-            (Fate::OutOfStep, _, Party::Device) => {
-                device_waits(words::speaker(&self.device.table, played.device_state)).to_string()
-            }
-            (Fate::OutOfStep, _, Party::Host) => {
-                turn_of(words::speaker(&self.protocol.table, played.protocol_state)).to_string()
-            }
+            (Fate::OutOfStep, ..) => self.turn(played, party).to_string(),
             (_, Mark::State(_), _) => format!("no {label} in this choice"),
             (Fate::Blamed(_), _, Party::Device) => "the device may send this".to_string(),
             (Fate::Blamed(_), _, Party::Host) => "the protocol allows this".to_string(),
@@ -181,15 +197,13 @@ impl Checked {
             Answer::Fits { .. } => (format!("{device} fits {protocol}"), None, None),
             Answer::Fails(played) => (format!("{device} does not fit {protocol}"), Some(self.chart(played)), Some(played)),
         };
-        let automaton = |described, name: &str, party| Automaton {
+        let automaton = |(party, name): (Party, &str)| Automaton {
             name: name.to_string(),
-            described,
+            described: self.described(party),
             path: played.map(|played| path(played, party)).unwrap_or_default(),
             marked: played.map(|played| mark(played, party)),
         };
-        let automata =
-            vec![automaton(&self.device, "device", Party::Device), automaton(&self.protocol, "protocol", Party::Host)];
-        Picture { title, chart, automata }
+        Picture { title, chart, automata: TEXTS.into_iter().rev().map(automaton).collect() }
     }
 
     fn chart(&self, played: &Played) -> Chart {
@@ -208,55 +222,29 @@ impl Checked {
         };
         let arrows = played.moves.iter().zip(1..).map(arrow).collect();
         let ending = format!("{}: {}", played.fate.word(), self.why(played));
-        Chart { arrows, marked: Some(last), ending, bad: true }
+        Chart { arrows, marked: last, ending, bad: true }
     }
 }
 
 /// What is marked in the text that speaks for a party: the field or the branch that the last move is about, else the state.
 fn mark(played: &Played, party: Party) -> Mark {
-    let last = played.moves.last();
-    let (state, branch) = match party {
-        Party::Device => (played.device_state, last.and_then(|last| last.device_branch)),
-        Party::Host => (played.protocol_state, last.and_then(|last| last.protocol_branch)),
-    };
     match played.fate {
-        Fate::Blamed(reason) | Fate::NotTaken(reason) => Mark::of(reason, branch, state),
-        Fate::OutOfStep => Mark::State(state),
+        Fate::Blamed(reason) | Fate::NotTaken(reason) => Mark::of(reason, played.last_branch(party), played.state(party)),
+        Fate::OutOfStep => Mark::State(played.state(party)),
     }
 }
 
 /// The branch that leads to where the two are out of step, in the text that speaks for a party.
 fn before(played: &Played, party: Party) -> Option<Mark> {
-    let last = played.moves.last().filter(|_| played.fate == Fate::OutOfStep)?;
-    let branch = if party == Party::Device { last.device_branch } else { last.protocol_branch };
-    branch.map(Mark::Branch)
+    played.last_branch(party).filter(|_| played.fate == Fate::OutOfStep).map(Mark::Branch)
 }
 
 /// The branches that the moves take in the text that speaks for a party, with the moves' numbers.
 fn path(played: &Played, party: Party) -> Vec<(usize, usize)> {
-    let branch = |one: &Move| if party == Party::Device { one.device_branch } else { one.protocol_branch };
-    played.moves.iter().zip(1..).filter_map(|(one, number)| Some((branch(one)?, number))).collect()
+    played.moves.iter().zip(1..).filter_map(|(one, number)| Some((one.branch(party)?, number))).collect()
 }
 
 /// A move in words.
 fn sentence(one: &Move) -> String {
     format!("{} sends {}", words::party(one.side), said::message(&one.message))
-}
-
-/// What a device does in a state where this one sends.
-fn device_waits(speaker: Option<Party>) -> &'static str {
-    match speaker {
-        Some(Party::Device) => "the device means to send",
-        Some(Party::Host) => "the device waits for the host",
-        None => "the device has ended",
-    }
-}
-
-/// What the protocol has in a state where this one sends.
-fn turn_of(speaker: Option<Party>) -> &'static str {
-    match speaker {
-        Some(Party::Device) => "by the protocol it is the device's turn",
-        Some(Party::Host) => "by the protocol it is the host's turn",
-        None => "the protocol has ended",
-    }
 }

@@ -13,12 +13,15 @@ pub struct Move {
     pub side: Party,
     /// What is said.
     pub message: Vec<u8>,
-    /// The device's and the protocol's state before it.
-    pub device_state: usize,
-    pub protocol_state: usize,
-    /// The branch of the device's state, and of the protocol's, that has the message's label.
-    pub device_branch: Option<usize>,
-    pub protocol_branch: Option<usize>,
+    /// The branches that have its label, where there are such: the device's own, and the protocol's, which speaks for the host.
+    branches: [Option<usize>; 2],
+}
+
+impl Move {
+    /// The branch that has its label in the text that speaks for a party.
+    pub fn branch(&self, party: Party) -> Option<usize> {
+        self.branches[party as usize]
+    }
 }
 
 /// What a list of moves comes to.
@@ -42,12 +45,23 @@ impl Fate {
     }
 }
 
-/// The moves, what they come to, and the two states at the end.
+/// The moves, what they come to, and the two states at the end. Who does not take the last message stays where it was.
 pub struct Played {
     pub moves: Vec<Move>,
     pub fate: Fate,
-    pub device_state: usize,
-    pub protocol_state: usize,
+    states: [usize; 2],
+}
+
+impl Played {
+    /// The state at the end, in the text that speaks for a party.
+    pub fn state(&self, party: Party) -> usize {
+        self.states[party as usize]
+    }
+
+    /// The branch of the last move in that text.
+    pub fn last_branch(&self, party: Party) -> Option<usize> {
+        self.moves.last()?.branch(party)
+    }
 }
 
 /// Plays the moves of a failing fit check: the speaker's branches in their order, one field high in the last, if one is. None where
@@ -60,11 +74,10 @@ pub fn play(device: &Table, protocol: &Table, list: &[u16], high: Option<u32>) -
         let side = protocol.turn(&theirs).ok()?;
         let speaker = if side == Party::Device { device } else { protocol };
         let message = made(speaker, branch, high.filter(|_| index + 1 == list.len()))?;
-        let (device_state, protocol_state) = (own.position.into(), theirs.position.into());
-        let device_branch = branch_named(device, device_state, &message);
-        let protocol_branch = branch_named(protocol, protocol_state, &message);
+        let named = |table: &Table, state: &State| branch_named(table, state.position.into(), &message);
+        let branches = [named(device, &own), named(protocol, &theirs)];
         let answers = (heard(device, &mut own, side, &message), heard(protocol, &mut theirs, side, &message));
-        moves.push(Move { side, message, device_state, protocol_state, device_branch, protocol_branch });
+        moves.push(Move { side, message, branches });
         fate = match (side, answers) {
             (_, (Verdict::Forwarded, Verdict::Forwarded)) => continue,
             (Party::Device, (Verdict::Forwarded, Verdict::Blamed(Party::Device, reason))) => Fate::Blamed(reason),
@@ -72,12 +85,7 @@ pub fn play(device: &Table, protocol: &Table, list: &[u16], high: Option<u32>) -
             _ => return None,
         };
     }
-    let last = moves.last().filter(|_| fate != Fate::OutOfStep);
-    let (device_state, protocol_state) = match last {
-        Some(last) => (last.device_state, last.protocol_state),
-        None => (own.position.into(), theirs.position.into()),
-    };
-    Some(Played { moves, fate, device_state, protocol_state })
+    Some(Played { moves, fate, states: [own.position.into(), theirs.position.into()] })
 }
 
 /// The message of a branch, by the library.

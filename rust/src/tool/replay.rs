@@ -6,10 +6,10 @@ use super::log::{Break, Entry, Log};
 use super::picture::{self, Arrow, Automaton, Chart, Picture, Way};
 use super::places::Mark;
 use super::progress::Progress;
-use super::said::{self, Value};
 use super::style::Style;
 use super::text::{padded, Text};
-use super::{refuse, refused, words, write_picture, Ending, Status, Trouble, World};
+use super::{refuse, refused, said, words, write_picture, Ending, Status, Trouble, World};
+use crate::proved::message::Field;
 use crate::proved::{Party, Question, Reason, State, Verdict, LONGEST_MESSAGE};
 use std::collections::BTreeMap;
 use std::fmt::Write as _;
@@ -256,7 +256,7 @@ impl<'a> Conversation<'a> {
         }
         let arrows: Vec<Arrow> = recent.into_iter().map(|one| one.arrow).collect();
         let marked = self.blame.as_ref().map_or(self.entries, |blame| blame.entry);
-        let chart = Chart { arrows, marked: Some(marked), ending: self.ending(), bad: self.blame.is_some() };
+        let chart = Chart { arrows, marked, ending: self.ending(), bad: self.blame.is_some() };
         let automaton = Automaton { name: "protocol".to_string(), described: self.protocol, path, marked: Some(mark) };
         let title = format!("{log} under {}", self.protocol.text.name);
         Picture { title, chart: Some(chart), automata: vec![automaton] }
@@ -289,6 +289,6 @@ fn broken(stop: Break, log: &Log) -> String {
 
 /// The first field of a message that is a text and no UTF-8.
 fn not_utf8(message: &[u8]) -> Option<usize> {
-    let broken = |field: &Value| matches!(field, Value::Text(text) if std::str::from_utf8(text).is_err());
+    let broken = |field: &Field| matches!(field, Field::Text(text) if std::str::from_utf8(text).is_err());
     said::fields(message).iter().position(broken)
 }

@@ -2,7 +2,7 @@
 
 use super::described::Described;
 use super::places::Mark;
-use super::said::{self, Value};
+use super::said;
 use super::text::shown;
 use crate::proved::{message, Party, Question, Reason, Table};
 
@@ -126,11 +126,11 @@ pub fn forbidden(reason: Reason, described: &Described, state: usize, bytes: &[u
         (Reason::OutOfRange(at), Some(branch)) => {
             let at = usize::from(at);
             let line = described.line(Mark::Field(branch, at));
-            let given = said::fields(bytes).get(at).map_or(String::new(), Value::measured);
+            let given = said::fields(bytes).get(at).map_or(String::new(), said::measured);
             format!("field {at} is {given}, and {whose} has {} (line {line})", field(table, branch, at))
         }
         (Reason::OtherKinds, Some(branch)) => {
-            let given: Vec<&str> = said::fields(bytes).iter().map(Value::kind).collect();
+            let given: Vec<&str> = said::fields(bytes).iter().map(said::kind).collect();
             let (given, wanted) = (given.join(", "), branch_fields(table, branch).join(", "));
             format!("its fields are ({given}), and {whose} has ({wanted}) (line {})", described.line(Mark::Branch(branch)))
         }

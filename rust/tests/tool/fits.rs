@@ -20,7 +20,7 @@ fn explained(protocol: &str, device: &str, status: u8, out: &str) {
 fn a_device_that_fits() {
     let out = "
 device.txt fits protocol.txt.
-Whatever the two sides say, it is never blamed and the two never jam; 2 pairs of states are met.
+As long as it keeps to its text it is never blamed, and the two never jam, whatever the host says; 2 pairs of states are met.
 ";
     explained(PING, "+{!Quit().end}", 0, out);
 }
@@ -29,7 +29,7 @@ Whatever the two sides say, it is never blamed and the two never jam; 2 pairs of
 fn one_pair() {
     let out = "
 device.txt fits protocol.txt.
-Whatever the two sides say, it is never blamed and the two never jam; 1 pair of states is met.
+As long as it keeps to its text it is never blamed, and the two never jam, whatever the host says; 1 pair of states is met.
 ";
     explained("end", "end", 0, out);
 }

@@ -68,7 +68,7 @@ fn column(chart: &Chart, grid: &Grid, arrows: &[Arrow], mut next: usize, is_last
             y += LINE + 4;
         }
         next = arrow.number + 1;
-        let ground = match chart.marked == Some(arrow.number) {
+        let ground = match chart.marked == arrow.number {
             true if chart.bad => "marked bad",
             true => "marked",
             false => "ground",

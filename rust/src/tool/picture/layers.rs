@@ -97,18 +97,19 @@ struct Course {
 pub fn lay_out(nodes: &[Node], widest: i32) -> Layout {
     let plan = Plan::of(nodes, widest);
     let columns = plan.columns();
-    let ways: Vec<Vec<Course>> = (0..nodes.len()).map(|node| plan.ways(node, &columns)).collect();
-    let tracks: Vec<Lines> = (0..plan.layers.len()).map(|channel| tracks(&ways, channel)).collect();
+    let courses: Vec<Vec<Course>> = (0..nodes.len()).map(|node| plan.courses(node, &columns)).collect();
+    let tracks: Vec<Lines> = (0..plan.layers.len()).map(|channel| tracks(&courses, channel)).collect();
     let (channels, height) = plan.channels(&tracks);
     let corner = |node: usize| (columns[node], channels[plan.layer[node]] + depth(&tracks[plan.layer[node]]));
     let corners: Vec<Point> = (0..nodes.len()).map(corner).collect();
     let level = |channel: usize, net: usize| channels[channel] + ABOVE + TRACK * tracks[channel].line(net);
-    let route = |node: usize, exit: &Exit, way: &Course| {
+    let route = |node: usize, exit: &Exit, course: &Course| {
         let from = (columns[node] + nodes[node].width, corners[node].1 + exit.y);
-        let points = way.points(from, corners[exit.target].1, level);
+        let points = course.points(from, corners[exit.target].1, level);
         Route { target: exit.target, points, back: plan.rises(node, exit.target) }
     };
-    let leaving = |node: usize| nodes[node].exits.iter().zip(&ways[node]).map(|(exit, way)| route(node, exit, way)).collect();
+    let leaving =
+        |node: usize| nodes[node].exits.iter().zip(&courses[node]).map(|(exit, course)| route(node, exit, course)).collect();
     let routes = (0..nodes.len()).map(leaving).collect();
     Layout { width: plan.right_margin() + STEP * plan.right.count, height, corners, routes }
 }
@@ -182,9 +183,9 @@ fn depth(tracks: &Lines) -> i32 {
 }
 
 /// The level lines of a channel.
-fn tracks(ways: &[Vec<Course>], channel: usize) -> Lines {
+fn tracks(courses: &[Vec<Course>], channel: usize) -> Lines {
     let mut spans: BTreeMap<usize, (i32, i32)> = BTreeMap::new();
-    for (net, from, to) in ways.iter().flatten().flat_map(|way| way.level(channel)) {
+    for (net, from, to) in courses.iter().flatten().flat_map(|course| course.level(channel)) {
         let span = spans.entry(net).or_insert((from, to));
         *span = (span.0.min(from), span.1.max(to));
     }
@@ -272,10 +273,10 @@ impl<'a> Plan<'a> {
         nets
     }
 
-    fn ways(&self, node: usize, columns: &[i32]) -> Vec<Course> {
+    fn courses(&self, node: usize, columns: &[i32]) -> Vec<Course> {
         let gap = self.gap(node);
         let side = on_grid(columns[node] + self.nodes[node].width) + STEP;
-        let way = |exit: &Exit| {
+        let course = |exit: &Exit| {
             let (net, up) = (exit.target, self.rises(node, exit.target));
             let place = gap.iter().position(|&other| other == net).unwrap_or(0) as i32;
             let channel = if up { self.layer[node] } else { self.layer[node] + 1 };
@@ -289,7 +290,7 @@ impl<'a> Plan<'a> {
                 last: self.layer[net],
             }
         };
-        self.nodes[node].exits.iter().map(way).collect()
+        self.nodes[node].exits.iter().map(course).collect()
     }
 
     fn right_lane(&self, net: usize) -> i32 {

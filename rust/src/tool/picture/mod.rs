@@ -29,7 +29,7 @@ pub struct Chart {
     /// Those that are shown.
     pub arrows: Vec<Arrow>,
     /// The number of the one that is marked.
-    pub marked: Option<usize>,
+    pub marked: usize,
     /// What the conversation comes to, in a sentence below the last message.
     pub ending: String,
     /// Whether that is a fault.
@@ -154,7 +154,7 @@ mod tests {
             arrow(188, Party::Device, "Ask(101)", Way::Blamed),
         ];
         let ending = format!("blamed: {} and so on", "long".repeat(40));
-        Chart { arrows, marked: Some(188), ending, bad }
+        Chart { arrows, marked: 188, ending, bad }
     }
 
     fn described(bytes: &[u8]) -> Described {
