@@ -1,2 +1,2 @@
--- What the two proofs by hand have in common.
-mod Lent
+-- Laws are what the proofs of the functions cite.
+pub mod laws

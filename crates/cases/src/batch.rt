@@ -1,15 +1,15 @@
 // The batch over a lent state, and whether it goes as a line wants it. The file `batches` says what the numbers are.
 ghost use mathlib.Core.Path.{_≡_};
-ghost use Rattle.monitor.specs.Batch.{batched};
-ghost use Rattle.monitor.specs.Counts.{counted-batch};
+ghost use Rattle.conversation.specs.Batch.{batched};
+ghost use Rattle.conversation.specs.Counts.{counted-batch};
 use super::part;
 use super::step;
 use super::step::Outcome;
-use monitor::Counts;
-use monitor::State;
-use monitor::batch::Batched;
-use monitor::batch::Last;
-use monitor::batch::Passed;
+use conversation::Counts;
+use conversation::State;
+use conversation::batch::Batched;
+use conversation::batch::Last;
+use conversation::batch::Passed;
 use table::Table;
 
 // The call: state and counts are lent to it.

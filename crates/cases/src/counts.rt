@@ -1,12 +1,12 @@
 // The counts of a conversation as the lines of a file have them: the setting z, n of each state of the table, k of each branch.
 ghost use Prim.Native.Nat.{_+_, _≤_};
-use monitor::Counts;
+use conversation::Counts;
 use table::Table;
 
 // Nothing counted, with the setting of the files: 200 hundredths.
 pub fn none() -> Counts {
     let mut c = [0u16; 161];
-    c[monitor::SETTING] = 200;
+    c[conversation::SETTING] = 200;
     c
 }
 
@@ -14,9 +14,9 @@ pub fn none() -> Counts {
 pub fn of(t: &Table, numbers: &[u64; 512]) -> Counts {
     let mut c = none();
     let m = states(t);
-    c[monitor::SETTING] = (numbers[2] % 65536) as u16;
-    put(&mut c, monitor::CHOSEN, m, numbers, 3);
-    put(&mut c, monitor::TAKEN, branches(t), numbers, 3 + m);
+    c[conversation::SETTING] = (numbers[2] % 65536) as u16;
+    put(&mut c, conversation::CHOSEN, m, numbers, 3);
+    put(&mut c, conversation::TAKEN, branches(t), numbers, 3 + m);
     c
 }
 
@@ -30,7 +30,8 @@ pub fn are(t: &Table, c: &Counts, numbers: &[u64; 512], from: usize, to: usize) 
     if to != from + m + n {
         return false;
     }
-    same(c, monitor::CHOSEN, m, numbers, from) && same(c, monitor::TAKEN, n, numbers, from + m)
+    same(c, conversation::CHOSEN, m, numbers, from)
+        && same(c, conversation::TAKEN, n, numbers, from + m)
 }
 
 fn states(t: &Table) -> usize

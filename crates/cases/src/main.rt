@@ -14,10 +14,10 @@
 // What j, g, f and i want, the lines w, which ask for the due part, and three lines b, whose standing is no code, are left to the tests
 // in Rust: 39 of the 688 cases of `monitor` and 13 of the 135 of `batches`.
 ghost use Prim.Native.Nat.{_≤_};
+use conversation::Counts;
+use conversation::State;
 use libc::STDOUT_FILENO;
 use line::Line;
-use monitor::Counts;
-use monitor::State;
 use std::num::wrapping_add_u64;
 use step::Outcome;
 use table::Table;
@@ -143,7 +143,7 @@ fn batch_of(
 
 // A conversation begins.
 fn start(t: &Table, c: &mut Counts, setting: u64) -> Outcome {
-    let begun = monitor::fresh(t, (setting % 4294967296) as u32);
+    let begun = questions::fresh(t, (setting % 4294967296) as u32);
     let state = begun.state;
     let counts = begun.counts;
     *c = counts;

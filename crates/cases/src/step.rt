@@ -1,13 +1,13 @@
 // The step over a lent state, and whether it goes as a line wants it. The file `monitor` says what the numbers are.
 ghost use mathlib.Core.Path.{_≡_};
-ghost use Rattle.monitor.specs.Step.{outcome};
-ghost use Rattle.monitor.specs.Counts.{counted-step};
-use monitor::Counts;
-use monitor::Reason;
-use monitor::Standing;
-use monitor::State;
-use monitor::Stepped;
-use monitor::Verdict;
+ghost use Rattle.conversation.specs.Step.{outcome};
+ghost use Rattle.conversation.specs.Counts.{counted-step};
+use conversation::Counts;
+use conversation::Reason;
+use conversation::Standing;
+use conversation::State;
+use conversation::Stepped;
+use conversation::Verdict;
 use table::Party;
 use table::Table;
 

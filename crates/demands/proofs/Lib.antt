@@ -1,2 +1,3 @@
-pub mod Likeness
-pub mod Demands
+-- Laws are what the proofs cite; claims are the proofs of what specs/ states.
+pub mod laws
+pub mod claims

@@ -8,14 +8,14 @@ use mathlib.Core.Option.{Option}
 use Prim.Native.Nat.{ℕ, _*_, _≤_}
 use lib.ListN.{length}
 use Rattle.table.specs.View.{states-of, view}
-use Rattle.text.specs.Grammar.{text-limit, Protocol, print-text, Legal}
-use Rattle.text.specs.Reading.{reads}
+use Rattle.grammar.specs.Grammar.{text-limit, Protocol, print-text, Legal}
+use Rattle.grammar.specs.Reading.{reads}
 use Rattle.spelling.specs.Spelling.{Spelt}
 use Rattle.types.specs.Types.{protocol-rules}
-use Rattle.monitor.specs.Conversation.{Sent, Watched, BlamedEarly}
-use Rattle.monitor.specs.Batches.{Left, WatchedBatches}
-use Rattle.fit.specs.Machine.{Safe, Unsafe}
-use Rattle.fit.specs.Answer.{Answer, fits, fails, Answered, FewestMoves}
+use Rattle.conversation.specs.Conversation.{Sent, Watched, BlamedEarly}
+use Rattle.conversation.specs.Batches.{Left, WatchedBatches}
+use Rattle.machine.specs.Machine.{Safe, Unsafe}
+use Rattle.machine.specs.Answer.{Answer, fits, fails, Answered, FewestMoves}
 use Rattle.together.specs.Unblamed.{Keeps, Unblamed}
 use Rattle.report.specs.Report.{fit, no-fit, Reported, ShowsFewest}
 

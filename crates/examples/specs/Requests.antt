@@ -11,9 +11,9 @@ use Rattle.table.specs.View.{Words, view, sound-of}
 use Rattle.table.specs.declared.Party.the-variants.{Device, Host}
 use Rattle.message.specs.Message.{refusal}
 use Rattle.message.specs.Make.{opening}
-use Rattle.monitor.specs.declared.Standing.the-variants.{Running, HostBlamed}
-use Rattle.monitor.specs.Step.{refused, blamed, forwarded, fresh, stepping}
-use Rattle.monitor.specs.Warning.{WarningExamples}
+use Rattle.conversation.specs.declared.Standing.the-variants.{Running, HostBlamed}
+use Rattle.conversation.specs.Step.{refused, blamed, forwarded, fresh, stepping}
+use Rattle.conversation.specs.Warning.{WarningExamples}
 use Rattle.examples.specs.Twelve.{Reads, RefusedAt, table, ask, ok, gives}
 use Rattle.table.specs.Table as T
 

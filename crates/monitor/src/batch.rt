@@ -5,47 +5,28 @@ ghost use mathlib.Core.Path.{_≡_};
 ghost use mathlib.Core.Bool.{true};
 ghost use mathlib.Core.List.{List};
 ghost use Prim.Native.Nat.{ℕ, _+_, _≤_};
-ghost use Rattle.monitor.specs.Step.{is-running};
-ghost use Rattle.monitor.specs.Batch.{latest, device-took, host-took, last-of, batched};
-ghost use Rattle.monitor.specs.Turns.{Within, Led, is-last-forwarded, none-passed, passed-at, taken-of, turned-told, counted-one-turn};
-ghost use Rattle.monitor.specs.Counts.{counted-batch};
-ghost use Rattle.monitor.specs.Leaves.{Rising};
-ghost use Rattle.monitor.specs.declared.State.{State};
-ghost use Rattle.monitor.specs.declared.Verdict.the-variants.{Forwarded};
-ghost use Rattle.monitor.specs.declared.batch.Last.the-variants.{Answer};
-use super::Counts;
-use super::State;
-use super::Verdict;
-use super::ask;
+ghost use Rattle.conversation.specs.Step.{is-running};
+ghost use Rattle.conversation.specs.Batch.{latest, device-took, host-took, last-of, batched};
+ghost use Rattle.conversation.specs.inner.Keeping.{Within, is-last-forwarded};
+ghost use Rattle.monitor.specs.inner.Lanes.{Led, none-passed, passed-at, taken-of, turned-told, counted-one-turn};
+ghost use Rattle.conversation.specs.Counts.{counted-batch};
+ghost use Rattle.conversation.specs.inner.Keeping.{Rising};
+ghost use Rattle.conversation.specs.declared.State.{State};
+ghost use Rattle.conversation.specs.declared.Verdict.the-variants.{Forwarded};
+ghost use Rattle.conversation.specs.declared.batch.Last.the-variants.{Answer};
 use super::follow;
 use super::lane;
 use super::lane::Taken;
+use conversation::Counts;
+use conversation::State;
+use conversation::Verdict;
+use conversation::batch::Batched;
+use conversation::batch::Lane;
+use conversation::batch::Last;
+use conversation::batch::Passed;
+use questions::ask;
 use table::Party;
 use table::Table;
-
-// The answer of the last step that was tried, or 9's or 10's no; or no step was tried, for none was due.
-pub enum Last {
-    NoneDue,
-    Answer(Verdict),
-}
-
-// How many of one side's waiting bytes are used, and how many bytes are written on the other side's output.
-pub struct Lane {
-    pub used: usize,
-    pub written: usize,
-}
-
-// The device's messages go to the host's output, the host's to the device's.
-pub struct Passed {
-    pub device: Lane,
-    pub host: Lane,
-    pub last: Last,
-}
-
-pub struct Batched {
-    pub state: State,
-    pub passed: Passed,
-}
 
 // Takes due messages in turn until none is due, a step refuses or a blame falls.
 pub fn batch(

@@ -2,22 +2,23 @@
 ghost use mathlib.Core.Path.{_≡_};
 ghost use mathlib.Core.Bool.{true};
 ghost use Rattle.table.specs.View.{sound-of};
-ghost use Rattle.monitor.specs.Step.{told, stepping, outcome};
-ghost use Rattle.monitor.specs.Due.{awaited, of-side};
-ghost use Rattle.monitor.specs.Batch.{used-by, written-by, taking, last-of};
-ghost use Rattle.monitor.specs.Turns.{Heard, LaneIn, lane-of, taken-of, answer-counted, PassedOn};
-ghost use Rattle.monitor.specs.Counts.{counted, first-left};
-ghost use Rattle.monitor.specs.Leaves.{Rising};
-use super::Counts;
-use super::State;
-use super::Stepped;
-use super::Verdict;
-use super::batch::Lane;
-use super::batch::Last;
+ghost use Rattle.conversation.specs.Step.{told, stepping, outcome};
+ghost use Rattle.conversation.specs.Due.{awaited, of-side};
+ghost use Rattle.conversation.specs.Batch.{used-by, written-by, taking, last-of};
+ghost use Rattle.conversation.specs.inner.Keeping.{Heard, LaneIn};
+ghost use Rattle.monitor.specs.inner.Lanes.{lane-of, taken-of, answer-counted, PassedOn};
+ghost use Rattle.conversation.specs.Counts.{counted, first-left};
+ghost use Rattle.conversation.specs.inner.Keeping.{Rising};
 use super::copy;
 use super::judge;
 use super::straight;
 use super::straight::Ahead;
+use conversation::Counts;
+use conversation::State;
+use conversation::Stepped;
+use conversation::Verdict;
+use conversation::batch::Lane;
+use conversation::batch::Last;
 use table::Party;
 use table::Table;
 
@@ -60,7 +61,7 @@ pub fn take(
 {
     let at = lane.used;
     let rest = &bytes[at..];
-    let n = super::first_length(rest);
+    let n = questions::first_length(rest);
     if n == 0 {
         return Taken {
             answer: Last::NoneDue,

@@ -5,9 +5,9 @@ ghost use mathlib.Core.Bool.{true};
 ghost use Prim.Native.Nat.{_≤_, _<_};
 ghost use lib.ListN.{length};
 ghost use Rattle.table.specs.View.{branches-of, sound-of};
-ghost use Rattle.monitor.specs.Leaves.{Facing, Carried, Held, Straight, Leading};
-use super::ask;
+ghost use Rattle.monitor.specs.inner.Leaves.{Facing, Carried, Held, Straight, Leading};
 use super::judge;
+use questions::ask;
 use table::Party;
 use table::Table;
 

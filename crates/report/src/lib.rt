@@ -8,8 +8,8 @@ ghost use Prim.Native.Nat.{_≤_};
 ghost use lib.ListN.{length};
 ghost use Rattle.table.specs.View.{sound-of};
 ghost use Rattle.report.specs.Report.{Written};
-ghost use Rattle.report.specs.Playing.{Opened, Composed};
-use fit::Fitting;
+ghost use Rattle.report.specs.inner.Playing.{Opened, Composed};
+use machine::Fitting;
 use table::Table;
 use write::Whose;
 

@@ -8,14 +8,14 @@ ghost use Rattle.table.specs.View.{view, sound-of};
 ghost use Rattle.message.specs.Message.{read, well-formed};
 ghost use Rattle.message.specs.Judge.{allows};
 ghost use Rattle.message.specs.Make.{exists, high-of};
-ghost use Rattle.report.specs.Playing.{heard-of, pair-of, settled, is-device, high-in, move-at, move-of};
-ghost use Rattle.report.specs.Playing.{InTurn, MoveSaid, Speaking, MoveSpoken, Plays, Ready, ListShows, Ended};
+ghost use Rattle.report.specs.inner.Playing.{heard-of, pair-of, settled, is-device, high-in, move-at, move-of};
+ghost use Rattle.report.specs.inner.Playing.{InTurn, MoveSaid, Speaking, MoveSpoken, Plays, Ready, ListShows, Ended};
 use crate::write;
+use conversation::Standing;
+use conversation::State;
+use conversation::Verdict;
 use message::High;
 use message::Made;
-use monitor::Standing;
-use monitor::State;
-use monitor::Verdict;
 use table::Party;
 use table::Table;
 
@@ -55,7 +55,7 @@ fn hear(t: &Table, position: u8, side: Party, message: &[u8]) -> Heard
         position,
         standing: Standing::Running,
     };
-    let begun = monitor::fresh(t, 1);
+    let begun = questions::fresh(t, 1);
     let mut counts = begun.counts;
     let r = monitor::step(t, s, &mut counts, side, message, &mut out);
     let verdict = r.verdict;

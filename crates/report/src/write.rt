@@ -7,11 +7,11 @@ ghost use mathlib.Core.Option.{none};
 ghost use lib.ListN.{length};
 ghost use Rattle.table.specs.View.{label-of};
 ghost use Rattle.message.specs.Make.{high-of};
-ghost use Rattle.message.specs.Layout.{put-at};
-ghost use Rattle.fit.specs.Machine.{device-blamed, jammed};
+ghost use Rattle.message.specs.inner.Layout.{put-at};
+ghost use Rattle.machine.specs.Machine.{device-blamed, jammed};
 ghost use Rattle.table.specs.Ascii.{ascii, decimal, letters};
 ghost use Rattle.report.specs.Report as R;
-ghost use Rattle.report.specs.Lines.{whose-of, label-line};
+ghost use Rattle.report.specs.inner.Lines.{whose-of, label-line};
 use message::High;
 use table::Party;
 

@@ -1,8 +1,2 @@
-pub mod Lengths
-pub mod Wide
-pub mod Sides
-pub mod Advance
-pub mod Passing
-pub mod Due
-pub mod Warn
-pub mod Answers
+-- Laws are what the proofs of the functions cite.
+pub mod laws

@@ -1,25 +1,12 @@
 // Messages: their questions, their label, and the message made from a branch.
 ghost use mathlib.Core.Path.{_≡_};
 ghost use Rattle.message.specs.Message.{has-label, front-of, broken, refusal};
-ghost use Rattle.message.specs.Make.{high-of, made-numbers, making};
-ghost use Rattle.sojimu.specs.Codes.{head-codes, named-by, made-codes};
-ghost use Rattle.sojimu.specs.Inner.{SameBranch, SameField};
-use message::High;
+ghost use Rattle.message.specs.Make.{making};
+ghost use Rattle.codes.specs.Codes.{head-codes, named-by, made-codes};
+use codes::messages;
+use codes::messages::Head;
+use codes::messages::Made;
 use table::Table;
-
-// What the front of some bytes tells: the number of the question that got a no, or 0, and the length that is announced.
-#[repr(C)]
-pub struct Head {
-    pub question: u32,
-    pub length: u32,
-}
-
-// What making a message gives: the number of the question that got a no, or 0, and the message's length.
-#[repr(C)]
-pub struct Made {
-    pub question: u32,
-    pub length: u32,
-}
 
 // 13 and 14 of bytes that may go on, and the length that is announced.
 #[no_mangle]
@@ -63,44 +50,11 @@ pub extern "C" fn sojimu_raw_make(table: &Table, branch: u32, named: u32, out: &
     ensures { λ r. ⌜ r ≡ made-codes (making (now (table .entry)) branch (named-by named) (now (out .entry)) .numbers) ⌝ }
     ensures { λ r. ⌜ now (out .exit) ≡ making (now (table .entry)) branch (named-by named) (now (out .entry)) .buffer ⌝ }
 {
-    let r = message::make(table, branch_of(branch), high_of(named), out);
-    made_codes(r)
-}
-
-// A number that no branch has stands for every such number.
-fn branch_of(branch: u32) -> u16
-    ensures { λ r. ⌜ SameBranch r branch ⌝ }
-{
-    if branch < 65536 {
-        return branch as u16;
-    }
-    65535
-}
-
-// 255 names no field. A number that no field has stands for every such number.
-fn high_of(named: u32) -> High
-    ensures { λ r. ⌜ SameField (high-of r) (named-by named) ⌝ }
-{
-    if named == 255 {
-        return High::Nothing;
-    }
-    if named < 255 {
-        return High::Field(named as u8);
-    }
-    High::Field(254)
-}
-
-fn made_codes(made: message::Made) -> Made
-    ensures { λ r. ⌜ r ≡ made-codes (made-numbers made) ⌝ }
-{
-    match made {
-        message::Made::Refused(question) => Made {
-            question: question as u32,
-            length: 0,
-        },
-        message::Made::Length(length) => Made {
-            question: 0,
-            length: length as u32,
-        },
-    }
+    let r = message::make(
+        table,
+        messages::branch_of(branch),
+        messages::high_of(named),
+        out,
+    );
+    messages::made_codes(r)
 }

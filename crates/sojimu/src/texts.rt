@@ -1,10 +1,10 @@
 // Protocol texts: reading one, and the report of two.
 ghost use mathlib.Core.Path.{_≡_};
-ghost use Rattle.text.specs.Filled.{given};
-ghost use Rattle.text.specs.Reading.{reads};
+ghost use Rattle.grammar.specs.Filled.{given};
+ghost use Rattle.grammar.specs.Reading.{reads};
 ghost use Rattle.report.specs.Report.{Written};
+use grammar::Refusal;
 use table::Table;
-use text::Refusal;
 
 // Questions 1 to 8, 19 and 20.
 #[no_mangle]

@@ -1,21 +1,12 @@
 // Whether a branch is picked far too often or too seldom for its share, and the estimate of its share.
 ghost use mathlib.Core.Path.{_≡_};
-ghost use Rattle.monitor.specs.Warning.{warning, estimate-of, notice-of};
-ghost use Rattle.sojimu.specs.Codes.{state-in, estimate-code, warning-codes};
-use super::steps;
-use monitor::Counts;
-use monitor::warning::Estimate;
+ghost use Rattle.conversation.specs.Warning.{warning};
+ghost use Rattle.codes.specs.Codes.{state-in, warning-codes};
+use codes::steps;
+use codes::warnings;
+use codes::warnings::Warning;
+use conversation::Counts;
 use table::Table;
-
-// The number of the question that got a no, or 0; whether the branch warns (0 or 1), the side that sends at its choice (0 device, 1
-// host), and the estimate in thousandths (65535: none).
-#[repr(C)]
-pub struct Warning {
-    pub question: u32,
-    pub warns: u32,
-    pub sender: u32,
-    pub estimate: u32,
-}
 
 // Asks 9 of the table and the state, then 18.
 #[no_mangle]
@@ -28,34 +19,6 @@ pub extern "C" fn sojimu_raw_warning(
     ensures { λ r. ⌜ r ≡ warning-codes (warning (now (table .entry)) (state-in (now (state .entry))) (now (counts .entry)) branch) ⌝ }
 {
     let s = steps::state_of(state[0], state[1]);
-    let r = monitor::warning::of_branch(table, s, counts, branch);
-    warning_codes(r)
-}
-
-fn warning_codes(w: monitor::warning::Warning) -> Warning
-    ensures { λ r. ⌜ r ≡ warning-codes (notice-of w) ⌝ }
-{
-    match w {
-        monitor::warning::Warning::Refused(question) => Warning {
-            question: question as u32,
-            warns: 0,
-            sender: 0,
-            estimate: 65535,
-        },
-        monitor::warning::Warning::Tells(warns, side, e) => Warning {
-            question: 0,
-            warns: if warns { 1 } else { 0 },
-            sender: steps::party_code(side) as u32,
-            estimate: estimate_code(e),
-        },
-    }
-}
-
-fn estimate_code(e: Estimate) -> u32
-    ensures { λ r. ⌜ r ≡ estimate-code (estimate-of e) ⌝ }
-{
-    match e {
-        Estimate::NoneYet => 65535,
-        Estimate::Thousandths(n) => n,
-    }
+    let r = questions::warning::of_branch(table, s, counts, branch);
+    warnings::warning_codes(r)
 }

@@ -1,13 +1,3 @@
-pub mod Classes
-pub mod Here
-pub mod Scan
-pub mod Places
-pub mod Prints
-pub mod Read
-pub mod Spell
-pub mod Names
-pub mod Exact
-pub mod Examples
-pub mod Alike
-pub mod Split
-pub mod Refused
+-- Laws are what the proofs cite; claims are the proofs of what specs/ states.
+pub mod laws
+pub mod claims

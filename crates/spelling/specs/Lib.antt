@@ -3,6 +3,6 @@
 pub mod Spelling
 pub mod Places
 pub mod Speller
-pub mod Theorems
+pub mod TextTheorems
 pub mod Refusals
-pub mod Examples
+pub mod SpellingExamples

@@ -6,11 +6,11 @@ use mathlib.Core.Bool.{Bool, true, false}
 use mathlib.Core.List.{List, [], _∷_, _++_}
 use Prim.Native.Nat.{ℕ, _+_}
 use lib.ListN.{length}
-use Rattle.text.specs.Token.{token}
-use Rattle.text.specs.Grammar.{Tok, word, number, sign}
-use Rattle.text.specs.declared.token.Token.{Token}
+use Rattle.grammar.specs.Token.{token}
+use Rattle.grammar.specs.Grammar.{Tok, word, number, sign}
+use Rattle.grammar.specs.declared.token.Token.{Token}
 use Rattle.spelling.specs.Spelling.{blank, Spells, EndsRun}
-use Rattle.text.specs.Kind as K
+use Rattle.grammar.specs.Kind as K
 
 -- the bytes begin with a token
 pub record Begins (u : List ℕ) : Type 0 where

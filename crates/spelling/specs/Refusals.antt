@@ -4,13 +4,13 @@
 use mathlib.Core.Path.{_≡_}
 use mathlib.Core.List.{List, _∷_, _++_, map}
 use Prim.Native.Nat.{ℕ, _≤_}
-use Rattle.text.specs.Grammar.{Protocol, Tok, print-text, tok-of}
-use Rattle.text.specs.Filled.{refused}
-use Rattle.text.specs.Reading.{reads}
-use Rattle.text.specs.declared.token.Token.{Token}
+use Rattle.grammar.specs.Grammar.{Protocol, Tok, print-text, tok-of}
+use Rattle.grammar.specs.Filled.{refused}
+use Rattle.grammar.specs.Reading.{reads}
+use Rattle.grammar.specs.declared.token.Token.{Token}
 use Rattle.spelling.specs.Spelling.{Spelt}
 use Rattle.spelling.specs.Places.{Placed}
-use Rattle.text.specs.Kind as K
+use Rattle.grammar.specs.Kind as K
 
 -- the token whose place is p, of those that stand in the text: those before it, it itself and the rest
 pub record At (s : List ℕ) (p : ℕ) : Type 0 where

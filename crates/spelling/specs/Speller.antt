@@ -10,9 +10,9 @@ use Prim.Native.String.{String}
 use lib.Dec.{eqb}
 use Rattle.table.specs.Table.{legal-label}
 use Rattle.table.specs.View.{label-of}
-use Rattle.text.specs.Token.{word-of}
-use Rattle.text.specs.Number.{Signed}
-use Rattle.text.specs.Grammar.{SyntaxField, Ty, stop, var, loop, choice, Br, last, also, Protocol, Tok, word, number, sign, print-text}
+use Rattle.grammar.specs.Token.{word-of}
+use Rattle.grammar.specs.Number.{Signed}
+use Rattle.grammar.specs.Grammar.{SyntaxField, Ty, stop, var, loop, choice, Br, last, also, Protocol, Tok, word, number, sign, print-text}
 use Rattle.table.specs.Ascii.{ascii, letters, digits}
 use Rattle.spelling.specs.Spelling.{sign-tokens, dot-tokens, word-tokens}
 

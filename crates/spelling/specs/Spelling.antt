@@ -12,10 +12,10 @@ use lib.ListN.{length}
 use Rattle.table.specs.Ascii.{ascii}
 use Rattle.table.specs.Lists.{every}
 use Rattle.table.specs.Table.{upper, letter-or-digit}
-use Rattle.text.specs.Token.{word-of}
-use Rattle.text.specs.Number.{value-of}
-use Rattle.text.specs.Grammar.{Tok, word, number, sign}
-use Rattle.text.specs.Kind as K
+use Rattle.grammar.specs.Token.{word-of}
+use Rattle.grammar.specs.Number.{value-of}
+use Rattle.grammar.specs.Grammar.{Tok, word, number, sign}
+use Rattle.grammar.specs.Kind as K
 
 -- ---- bytes: `upper` is A-Z, `letter-or-digit` A-Z, a-z, 0-9
 

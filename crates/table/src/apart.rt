@@ -3,7 +3,7 @@ ghost use mathlib.Core.Path.{_≡_};
 ghost use Prim.Native.Nat.{_≤_, _<_};
 ghost use lib.Dec.{eqb};
 ghost use Rattle.table.specs.View.{joined-label};
-ghost use Rattle.table.specs.Scans.{all, alone, mark-of};
+ghost use Rattle.table.specs.inner.Scans.{all, alone, mark-of};
 use super::Table;
 
 // Whether there is none among the first n branches. The filter is a set of 4,096 marks: a branch whose mark is not yet in it has no

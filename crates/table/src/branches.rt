@@ -2,7 +2,7 @@
 ghost use mathlib.Core.Path.{_≡_};
 ghost use mathlib.Core.Bool.{true, false};
 ghost use Prim.Native.Nat.{_+_, _≤_, _<_};
-ghost use Rattle.table.specs.Scans.{all, legal-at, in-place, Members, Unshared, PassedBranches};
+ghost use Rattle.table.specs.inner.Scans.{all, legal-at, in-place, Members, Unshared, PassedBranches};
 use super::Table;
 use super::apart;
 use super::letters;

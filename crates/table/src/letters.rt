@@ -3,7 +3,7 @@ ghost use mathlib.Core.Path.{_≡_};
 ghost use Prim.Native.Nat.{ℕ, _≤_, _<_};
 ghost use Rattle.table.specs.Table.{legal-label};
 ghost use Rattle.table.specs.View.{word-at, label-of};
-ghost use Rattle.table.specs.Scans.{all, clear, Word};
+ghost use Rattle.table.specs.inner.Scans.{all, clear, Word};
 use super::Table;
 
 // The high bit of each byte.

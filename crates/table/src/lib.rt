@@ -5,7 +5,7 @@ ghost use mathlib.Core.Path.{_≡_};
 ghost use Prim.Native.Nat.{_<_};
 ghost use Rattle.table.specs.Table.{legal-label, legal-field, known-edition};
 ghost use Rattle.table.specs.View.{joined-label, word-at, label-of, regular-of, sound-of, sound-at, empty-table, opposite-of, turned, dual-of};
-ghost use Rattle.table.specs.Scans.{Word};
+ghost use Rattle.table.specs.inner.Scans.{Word};
 
 mod apart;
 mod branches;

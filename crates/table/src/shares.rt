@@ -4,7 +4,7 @@ ghost use Prim.Native.Nat.{_≤_, _<_};
 ghost use lib.ListN.{getD};
 ghost use Rattle.table.specs.Table.{shares-kept};
 ghost use Rattle.table.specs.View.{view};
-ghost use Rattle.table.specs.Scans.{all, Owned, weight-of, right-sum};
+ghost use Rattle.table.specs.inner.Scans.{all, Owned, weight-of, right-sum};
 use super::Table;
 
 // What a branch without a share adds: more than all shares together, so that no sum hides it.

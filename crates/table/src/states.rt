@@ -4,7 +4,7 @@ ghost use mathlib.Core.Bool.{true};
 ghost use Prim.Native.Nat.{_≤_};
 ghost use lib.Dec.{leb};
 ghost use Rattle.table.specs.View.{sort-at};
-ghost use Rattle.table.specs.Scans.{all, Choices};
+ghost use Rattle.table.specs.inner.Scans.{all, Choices};
 use super::Scan;
 use super::Table;
 

@@ -4,8 +4,8 @@ use crate::step;
 use crate::token;
 ghost use mathlib.Core.Path.{_≡_};
 ghost use Prim.Native.Nat.{_≤_};
-ghost use Rattle.text.specs.Scanner.{token-at};
-ghost use Rattle.text.specs.Recursive.{count-read, count-from};
+ghost use Rattle.grammar.specs.inner.Scanner.{token-at};
+ghost use Rattle.text.specs.inner.Recursive.{count-read, count-from};
 
 // The place to go on at and a number; or a refusal.
 pub struct Counted {

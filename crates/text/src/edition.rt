@@ -6,7 +6,7 @@ use crate::token;
 use table::Table;
 ghost use mathlib.Core.Path.{_≡_};
 ghost use Rattle.table.specs.View.{empty-table};
-ghost use Rattle.text.specs.Recursive.{Gives, edition-at, opening-of};
+ghost use Rattle.text.specs.inner.Recursive.{Gives, edition-at, opening-of};
 
 // The word `edition` and its number, which the table gets; without them the edition is 1, and the type comes first.
 pub fn read_opening(s: &[u8], t: &mut Table) -> Step

@@ -4,7 +4,7 @@ use crate::count::Counted;
 use crate::limits;
 use crate::step;
 ghost use mathlib.Core.Path.{_≡_};
-ghost use Rattle.text.specs.Recursive.{shared-at};
+ghost use Rattle.text.specs.inner.Recursive.{shared-at};
 
 // After a branch's fields: a dot, or `@`, a share and a dot. The number is the share, 0 for none.
 pub fn read_share(s: &[u8], p: usize) -> Counted

@@ -9,9 +9,9 @@ use Prim.Native.Nat.{ℕ}
 use Rattle.table.specs.View.{Words, view, sound-of}
 use Rattle.table.specs.declared.Party.the-variants.{Device}
 use Rattle.message.specs.Rules.{Rules, table-rules, next, led}
-use Rattle.monitor.specs.Step.{fresh, told, blamed}
-use Rattle.monitor.specs.Conversation.{Sent, Event, conversation, said-by, forwarded-ones, blamed-first, Judgeable, Reply, Kept}
-use Rattle.fit.specs.Machine.{Safe}
+use Rattle.conversation.specs.Step.{fresh, told, blamed}
+use Rattle.conversation.specs.Conversation.{Sent, Event, conversation, said-by, forwarded-ones, blamed-first, Judgeable, Reply, Kept}
+use Rattle.machine.specs.Machine.{Safe}
 
 module _ {D : Type 0} (d : Rules D) (p : Words) where
   -- The device keeps to its description: each time it is listened to, which under edition 2 is out of turn, too, what it sends well formed

@@ -6,8 +6,8 @@ use mathlib.Core.Logic.{_↔_}
 use mathlib.Core.Bool.{true}
 use mathlib.Core.List.{List, []}
 use Prim.Native.Nat.{ℕ, suc}
-use Rattle.text.specs.Grammar.{Way, SyntaxField, Ty, loop, choice, Br, Protocol, Writes, names-bound, recs-guarded}
-use Rattle.text.specs.Reading.{reads}
+use Rattle.grammar.specs.Grammar.{Way, SyntaxField, Ty, loop, choice, Br, Protocol, Writes, names-bound, recs-guarded}
+use Rattle.grammar.specs.Reading.{reads}
 use Rattle.types.specs.Types.{unfolded, HasBranch}
 
 -- a step of a path that passes no message

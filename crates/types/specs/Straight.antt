@@ -4,8 +4,8 @@
 use mathlib.Core.Path.{_≡_}
 use mathlib.Core.List.{List}
 use Prim.Native.Nat.{ℕ}
-use Rattle.text.specs.Grammar.{Way, SyntaxField, Share, Ty, stop, var, loop, choice, Br, last, also, Protocol, Writes, edition-named}
-use Rattle.text.specs.Reading.{reads}
+use Rattle.grammar.specs.Grammar.{Way, SyntaxField, Share, Ty, stop, var, loop, choice, Br, last, also, Protocol, Writes, edition-named}
+use Rattle.grammar.specs.Reading.{reads}
 
 mutual
   -- u is t with `rec`s of other names put straight before some of its names

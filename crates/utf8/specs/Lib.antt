@@ -1,5 +1,6 @@
--- Utf8 is what a reader has to believe, Scalars what it means, Examples what it comes to. Steps is what only the functions inside cite.
+-- Utf8 is what a reader has to believe, Scalars what it means, Utf8Examples what it comes to. Below
+-- inner stands what only the proofs and the functions inside cite.
 pub mod Utf8
 pub mod Scalars
-pub mod Examples
-pub mod Steps
+pub mod Utf8Examples
+pub mod inner

@@ -4,7 +4,7 @@ ghost use mathlib.Core.Bool.{true};
 ghost use Prim.Native.Nat.{_+_, _≤_, _<_};
 ghost use lib.ListN.{length, getD};
 ghost use Rattle.utf8.specs.Utf8.{is-utf8, within, _to_};
-ghost use Rattle.utf8.specs.Steps.{is-ascii, Ascii, AsciiTo, Width, size, second, low-first};
+ghost use Rattle.utf8.specs.inner.Characters.{is-ascii, Ascii, AsciiTo, Width, size, second, low-first};
 
 // Whether the bytes are well-formed UTF-8: a word at a time behind an ASCII byte, else one character after another.
 pub fn is_utf8(bytes: &[u8]) -> bool

@@ -3,7 +3,7 @@ use mathlib.Core.Path.{ap, _∙_}
 use native.Mathlib.Omega.{arith}
 use borrow.Author.Needs.{needs}
 use Rattle.table.specs.View.{label-of}
-use Rattle.message.proofs.Label.{label-of-halves}
+use Rattle.message.proofs.laws.HasLabel.{label-of-halves}
 use Rattle.message.proofs.label_here.Statement.{statement}
 use Rattle.message.proofs.label_here.Tie as tie
 

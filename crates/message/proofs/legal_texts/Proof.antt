@@ -3,7 +3,7 @@ use mathlib.Core.Path.{sym}
 use native.Mathlib.Omega.{arith}
 use borrow.Author.Needs.{needs}
 use Rattle.message.specs.Message.{count-of}
-use Rattle.message.proofs.Texts.{no-texts}
+use Rattle.message.proofs.laws.LegalTexts.{no-texts}
 use Rattle.message.proofs.legal_texts.Statement.{statement}
 use Rattle.message.proofs.legal_texts.Tie as tie
 

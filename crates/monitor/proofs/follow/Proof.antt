@@ -1,8 +1,8 @@
 -- `monitor::follow` meets its contract. Assumes nothing.
 use mathlib.Core.Path.{refl}
 use native.Mathlib.Omega.{arith}
-use Rattle.table.proofs.Facts.{sound-facts}
-use Rattle.monitor.proofs.Raising.{can-rise}
+use Rattle.table.proofs.laws.View.{sound-facts}
+use Rattle.conversation.proofs.laws.Counts.{can-rise}
 use Rattle.monitor.proofs.follow.Statement.{statement}
 use Rattle.monitor.proofs.follow.Tie as tie
 

@@ -3,8 +3,8 @@ use mathlib.Core.Path.{ap}
 use mathlib.Core.List.{List}
 use Prim.Native.Nat.{ℕ}
 use borrow.Author.Needs.{needs}
-use Rattle.monitor.specs.Step.{told, forwarded, forwarding, outcome}
-use Rattle.monitor.specs.Leaves.{moved-to}
+use Rattle.conversation.specs.Step.{told, forwarded, forwarding, outcome}
+use Rattle.conversation.specs.inner.Keeping.{moved-to}
 use Rattle.table.specs.View.{target-at}
 use Rattle.monitor.proofs.take.Statement.{statement}
 use Rattle.monitor.proofs.take.Tie as tie

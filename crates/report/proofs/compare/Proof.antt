@@ -3,7 +3,7 @@ use Prim.Native.Nat.{ℕ}
 use native.Mathlib.Omega.{arith}
 use lib.ListN.{replicate, length-replicate}
 use borrow.Author.Needs.{needs}
-use Rattle.report.proofs.Comparing.{never-refused, answered-fits, shows, answered-fails, no-fit-is, opened-one, opened-two}
+use Rattle.report.proofs.laws.Reported.{never-refused, answered-fits, shows, answered-fails, no-fit-is, opened-one, opened-two}
 use Rattle.report.proofs.compare.Statement.{statement}
 use Rattle.report.proofs.compare.Tie as tie
 

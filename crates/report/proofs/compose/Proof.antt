@@ -1,8 +1,8 @@
 -- `report::compose` meets its contract. Assumes nothing.
 use borrow.Author.Needs.{needs}
-use Rattle.text.proofs.Places.{small}
-use Rattle.report.specs.Lines.{whose-of}
-use Rattle.report.proofs.Comparing.{sound-of-is, composed-protocol, composed-device, composed-compared}
+use Rattle.grammar.proofs.laws.Refused.{small}
+use Rattle.report.specs.inner.Lines.{whose-of}
+use Rattle.report.proofs.laws.Reported.{sound-of-is, composed-protocol, composed-device, composed-compared}
 use Rattle.report.proofs.compose.Statement.{statement}
 use Rattle.report.proofs.compose.Tie as tie
 

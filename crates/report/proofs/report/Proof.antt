@@ -2,7 +2,7 @@
 use mathlib.Core.Path.{sym}
 use lib.Seq.{length-take-le}
 use borrow.Author.Needs.{needs}
-use Rattle.report.proofs.Comparing.{composed-room, copied-fits, written-not, written-whole}
+use Rattle.report.proofs.laws.Reported.{composed-room, copied-fits, written-not, written-whole}
 use Rattle.report.proofs.report.Statement.{statement}
 use Rattle.report.proofs.report.Tie as tie
 

@@ -7,9 +7,9 @@ use borrow.Author.Tests.{eq-eqb, ne-eqb, not-true, not-false}
 use borrow.Author.Needs.{needs}
 use Rattle.table.specs.Table.{shares-kept}
 use Rattle.table.specs.View.{view, regular-of}
-use Rattle.table.proofs.Lists.{never, left-fails, left-passes}
-use Rattle.table.proofs.Facts.{not-regular, codes-all, order-all, owners-below, passed}
-use Rattle.table.proofs.Sums.{none-kept}
+use Rattle.table.proofs.laws.Lists.{never, left-fails, left-passes}
+use Rattle.table.proofs.laws.View.{not-regular, codes-all, order-all, owners-below, passed}
+use Rattle.table.proofs.laws.SharesRight.{none-kept}
 use Rattle.table.proofs.regular.Statement.{statement}
 use Rattle.table.proofs.regular.Tie as tie
 

@@ -2,8 +2,8 @@
 use mathlib.Core.Path.{ap, _∙_}
 use mathlib.Core.Logic.{⊎-elim}
 use borrow.Author.Needs.{needs}
-use Rattle.text.specs.Filled.{came-out}
-use Rattle.text.proofs.Whole.{filled-read, filled-refused, place-fits}
+use Rattle.grammar.specs.Filled.{came-out}
+use Rattle.text.proofs.laws.ReadText.{filled-read, filled-refused, place-fits}
 use Rattle.text.proofs.fill.Statement.{statement}
 use Rattle.text.proofs.fill.Tie as tie
 

@@ -1,9 +1,9 @@
 -- `text::read_text` meets its contract: what reading the opening and the type gives, and the test of the token after it, say which case holds. Assumes nothing.
 use mathlib.Core.Path.{sym, subst}
 use borrow.Author.Needs.{needs}
-use Rattle.text.specs.Recursive.{Env, Room}
-use Rattle.text.proofs.Bound.{room-empty}
-use Rattle.text.proofs.Whole.{text-long, opening-refused, text-refused, text-wrong, text-read}
+use Rattle.text.specs.inner.Recursive.{Env, Room}
+use Rattle.text.proofs.laws.Env.{room-empty}
+use Rattle.text.proofs.laws.ReadText.{text-long, opening-refused, text-refused, text-wrong, text-read}
 use Rattle.text.proofs.read_text.Statement.{statement}
 use Rattle.text.proofs.read_text.Tie as tie
 

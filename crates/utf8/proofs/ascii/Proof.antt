@@ -2,8 +2,8 @@
 use Prim.Native.Nat.{_-_}
 use lib.ListN.{length}
 use borrow.Author.Needs.{needs}
-use Rattle.utf8.specs.Steps.{Ascii}
-use Rattle.utf8.proofs.Places.{ascii-none, ascii-on, ascii-to}
+use Rattle.utf8.specs.inner.Characters.{Ascii}
+use Rattle.utf8.proofs.laws.Characters.{ascii-none, ascii-on, ascii-to}
 use Rattle.utf8.proofs.ascii.Statement.{statement}
 use Rattle.utf8.proofs.ascii.Tie as tie
 

@@ -3,7 +3,7 @@ use Prim.Native.Nat.{_+_}
 use native.Mathlib.Omega.{arith}
 use borrow.Author.Needs.{needs}
 use borrow.Author.Tests.{eqb-true}
-use Rattle.utf8.proofs.Places.{neither-bits, ascii-more}
+use Rattle.utf8.proofs.laws.Characters.{neither-bits, ascii-more}
 use Rattle.utf8.proofs.block.Statement.{statement}
 use Rattle.utf8.proofs.block.Tie as tie
 

@@ -4,8 +4,8 @@ use native.Mathlib.Omega.{arith}
 use lib.ListN.{length}
 use borrow.Author.Needs.{needs}
 use borrow.Author.Tests.{not-false}
-use Rattle.utf8.specs.Steps.{Ascii}
-use Rattle.utf8.proofs.Places.{ascii-none, ascii-on}
+use Rattle.utf8.specs.inner.Characters.{Ascii}
+use Rattle.utf8.proofs.laws.Characters.{ascii-none, ascii-on}
 use Rattle.utf8.proofs.blocks.Statement.{statement}
 use Rattle.utf8.proofs.blocks.Tie as tie
 

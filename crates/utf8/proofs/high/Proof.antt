@@ -4,7 +4,7 @@ use Prim.Native.Nat.{_+_, _*_}
 use native.Mathlib.Omega.{arith}
 use lib.Bits.{bitAnd}
 use borrow.Author.Needs.{needs}
-use Rattle.utf8.proofs.Places.{ascii-eight}
+use Rattle.utf8.proofs.laws.Characters.{ascii-eight}
 use Rattle.utf8.proofs.high.Statement.{statement}
 use Rattle.utf8.proofs.high.Tie as tie
 

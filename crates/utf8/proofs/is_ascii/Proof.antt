@@ -1,6 +1,6 @@
 -- `utf8::is_ascii` meets its contract. Assumes nothing.
 use borrow.Author.Needs.{needs}
-use Rattle.utf8.proofs.Places.{ascii-to, all-ascii}
+use Rattle.utf8.proofs.laws.Characters.{ascii-to, all-ascii}
 use Rattle.utf8.proofs.is_ascii.Statement.{statement}
 use Rattle.utf8.proofs.is_ascii.Tie as tie
 

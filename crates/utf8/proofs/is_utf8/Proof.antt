@@ -4,8 +4,8 @@ use Prim.Native.Nat.{_+_, _-_}
 use native.Mathlib.Omega.{arith}
 use lib.ListN.{length}
 use borrow.Author.Needs.{needs}
-use Rattle.utf8.specs.Steps.{Spans}
-use Rattle.utf8.proofs.Places.{ascii-spans, span-on, span-all}
+use Rattle.utf8.specs.inner.Characters.{Spans}
+use Rattle.utf8.proofs.laws.Characters.{ascii-spans, span-on, span-all}
 use Rattle.utf8.proofs.is_utf8.Statement.{statement}
 use Rattle.utf8.proofs.is_utf8.Tie as tie
 

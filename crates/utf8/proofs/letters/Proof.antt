@@ -3,8 +3,8 @@ use Prim.Native.Nat.{_-_}
 use native.Mathlib.Omega.{arith}
 use lib.ListN.{length}
 use borrow.Author.Needs.{needs}
-use Rattle.utf8.specs.Steps.{Ascii}
-use Rattle.utf8.proofs.Places.{ascii-none, ascii-on, ascii-letter}
+use Rattle.utf8.specs.inner.Characters.{Ascii}
+use Rattle.utf8.proofs.laws.Characters.{ascii-none, ascii-on, ascii-letter}
 use Rattle.utf8.proofs.letters.Statement.{statement}
 use Rattle.utf8.proofs.letters.Tie as tie
 

@@ -7,11 +7,11 @@ use native.Mathlib.Omega.{arith}
 use lib.ListN.{length, getD}
 use borrow.Author.Needs.{needs}
 use borrow.Author.Tests.{not-true, not-false}
-use Rattle.table.proofs.Lists.{left-fails, left-passes}
+use Rattle.table.proofs.laws.Lists.{left-fails, left-passes}
 use Rattle.message.specs.Message.{count-of, text-length, number-at, legal-texts}
-use Rattle.message.specs.Layout.{text-at}
-use Rattle.message.proofs.Reading.{value-at}
-use Rattle.message.proofs.Texts.{left-legal, StopsAt, texts-begin, texts-next, texts-end}
+use Rattle.message.specs.inner.Layout.{text-at}
+use Rattle.message.proofs.laws.Message.{value-at}
+use Rattle.message.proofs.laws.LegalTexts.{left-legal, StopsAt, texts-begin, texts-next, texts-end}
 use Rattle.message.proofs.fields.texts.Statement.{statement}
 use Rattle.message.proofs.fields.texts.Tie as tie
 

@@ -8,16 +8,16 @@ use lib.ListN.{length}
 use borrow.Author.Needs.{needs}
 use borrow.Author.Tests.{not-true, not-false}
 use Rattle.table.specs.Lists.{first-no}
-use Rattle.monitor.specs.Step.{told}
-use Rattle.monitor.specs.Batch.{Batch, turns, batch-questions, begun, last-of, batched}
-use Rattle.monitor.specs.Counts.{Counts, counts-sound, counted-turns}
-use Rattle.monitor.specs.Leaves.{Rising}
-use Rattle.monitor.specs.Turns.{Led, no-turn}
-use Rattle.monitor.proofs.Asking.{entered, nine-yes}
-use Rattle.monitor.proofs.Batching.{left}
-use Rattle.monitor.proofs.Raising.{sound-rising}
-use Rattle.monitor.proofs.Looping.{On, begun-on, turn-less, turn-forwarded, led-further, led-on, led-less, led-rising, led-over, led-turn, counted-out, counted-in}
-use Rattle.monitor.proofs.Ways.{together}
+use Rattle.conversation.specs.Step.{told}
+use Rattle.conversation.specs.Batch.{Batch, turns, batch-questions, begun, last-of, batched}
+use Rattle.conversation.specs.Counts.{Counts, counts-sound, counted-turns}
+use Rattle.conversation.specs.inner.Keeping.{Rising}
+use Rattle.monitor.specs.inner.Lanes.{Led, no-turn}
+use Rattle.conversation.proofs.laws.Step.{entered, nine-yes}
+use Rattle.conversation.proofs.laws.Batch.{left}
+use Rattle.conversation.proofs.laws.Counts.{sound-rising}
+use Rattle.monitor.proofs.laws.Led.{On, begun-on, turn-less, turn-forwarded, led-further, led-on, led-less, led-rising, led-over, led-turn, counted-out, counted-in}
+use Rattle.monitor.proofs.laws.CountedStep.{together}
 use Rattle.monitor.proofs.batch.batch.Statement.{statement}
 use Rattle.monitor.proofs.batch.batch.Tie as tie
 

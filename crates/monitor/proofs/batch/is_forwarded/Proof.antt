@@ -1,9 +1,9 @@
 -- `monitor::batch::is_forwarded` meets its contract. Assumes nothing.
 use borrow.Author.Needs.{needs}
-use Rattle.monitor.specs.Step.{told}
-use Rattle.monitor.specs.Batch.{last-of}
-use Rattle.monitor.specs.Conversation.{is-forwarded}
-use Rattle.monitor.specs.Turns.{is-last-forwarded}
+use Rattle.conversation.specs.Step.{told}
+use Rattle.conversation.specs.Batch.{last-of}
+use Rattle.conversation.specs.Conversation.{is-forwarded}
+use Rattle.conversation.specs.inner.Keeping.{is-last-forwarded}
 use Rattle.monitor.proofs.batch.is_forwarded.Statement.{statement}
 use Rattle.monitor.proofs.batch.is_forwarded.Tie as tie
 

@@ -1,6 +1,6 @@
 -- `monitor::batch::latest` meets its contract. Assumes nothing.
 use borrow.Author.Needs.{needs}
-use Rattle.monitor.specs.Batch.{latest, last-of}
+use Rattle.conversation.specs.Batch.{latest, last-of}
 use Rattle.monitor.proofs.batch.latest.Statement.{statement}
 use Rattle.monitor.proofs.batch.latest.Tie as tie
 

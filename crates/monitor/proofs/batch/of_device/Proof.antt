@@ -1,6 +1,6 @@
 -- `monitor::batch::of_device` meets its contract. Assumes nothing.
 use borrow.Author.Needs.{needs}
-use Rattle.monitor.specs.Batch.{batched, device-took}
+use Rattle.conversation.specs.Batch.{batched, device-took}
 use Rattle.monitor.proofs.batch.of_device.Statement.{statement}
 use Rattle.monitor.proofs.batch.of_device.Tie as tie
 

@@ -1,6 +1,6 @@
 -- `monitor::batch::of_host` meets its contract. Assumes nothing.
 use borrow.Author.Needs.{needs}
-use Rattle.monitor.specs.Batch.{batched, host-took}
+use Rattle.conversation.specs.Batch.{batched, host-took}
 use Rattle.monitor.proofs.batch.of_host.Statement.{statement}
 use Rattle.monitor.proofs.batch.of_host.Tie as tie
 

@@ -8,13 +8,13 @@ use borrow.Author.Needs.{needs}
 use Rattle.table.specs.View.{view}
 use Rattle.message.specs.Message.{Message}
 use Rattle.message.specs.Judge.{selected}
-use Rattle.monitor.specs.Step.{told}
-use Rattle.monitor.specs.Batch.{last-of, batched}
-use Rattle.monitor.specs.Leaves.{Follows}
-use Rattle.monitor.specs.Turns.{Led, no-turn, a-turn}
-use Rattle.monitor.proofs.Batching.{left, sound-parts}
-use Rattle.monitor.proofs.Raising.{chosen-follows}
-use Rattle.monitor.proofs.Looping.{On, turn-less, device-straight, host-straight, device-raised, host-raised, led-on, led-rising}
+use Rattle.conversation.specs.Step.{told}
+use Rattle.conversation.specs.Batch.{last-of, batched}
+use Rattle.conversation.specs.inner.Keeping.{Follows}
+use Rattle.monitor.specs.inner.Lanes.{Led, no-turn, a-turn}
+use Rattle.conversation.proofs.laws.Batch.{left, sound-parts}
+use Rattle.conversation.proofs.laws.Counts.{chosen-follows}
+use Rattle.monitor.proofs.laws.Led.{On, turn-less, device-straight, host-straight, device-raised, host-raised, led-on, led-rising}
 use Rattle.monitor.proofs.batch.straight_on.Statement.{statement}
 use Rattle.monitor.proofs.batch.straight_on.Tie as tie
 

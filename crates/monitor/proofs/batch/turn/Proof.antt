@@ -1,8 +1,8 @@
 -- `monitor::batch::turn` meets its contract: one law for each return. Assumes nothing.
 use borrow.Author.Needs.{needs}
-use Rattle.monitor.specs.Batch.{last-of, batched}
-use Rattle.monitor.proofs.Batching.{ended-turn, devices-turn, hosts-turn}
-use Rattle.monitor.proofs.Looping.{ended-counted, device-counted, host-counted}
+use Rattle.conversation.specs.Batch.{last-of, batched}
+use Rattle.conversation.proofs.laws.Batch.{ended-turn, devices-turn, hosts-turn}
+use Rattle.monitor.proofs.laws.Led.{ended-counted, device-counted, host-counted}
 use Rattle.monitor.proofs.batch.turn.Statement.{statement}
 use Rattle.monitor.proofs.batch.turn.Tie as tie
 

@@ -2,7 +2,7 @@
 use native.Mathlib.Omega.{arith}
 use lib.ListN.{length-set}
 use borrow.Author.Needs.{needs}
-use Rattle.monitor.proofs.Copying.{eight-stored}
+use Rattle.monitor.proofs.laws.Copied.{eight-stored}
 use Rattle.monitor.proofs.copy.eight.Statement.{statement}
 use Rattle.monitor.proofs.copy.eight.Tie as tie
 

@@ -4,7 +4,7 @@ use Prim.Native.Nat.{_+_, _-_, _≤_}
 use native.Mathlib.Omega.{arith}
 use lib.ListN.{length}
 use borrow.Author.Needs.{needs}
-use Rattle.monitor.proofs.Copying.{front, front-length, front-more, front-all}
+use Rattle.monitor.proofs.laws.Copied.{front, front-length, front-more, front-all}
 use Rattle.monitor.proofs.copy.to_front.Statement.{statement}
 use Rattle.monitor.proofs.copy.to_front.Tie as tie
 

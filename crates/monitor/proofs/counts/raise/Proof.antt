@@ -2,7 +2,7 @@
 use mathlib.Core.Path.{sym}
 use native.Mathlib.Omega.{arith}
 use borrow.Author.Needs.{needs}
-use Rattle.monitor.proofs.Raising.{raised-more, raised-full}
+use Rattle.conversation.proofs.laws.Counts.{raised-more, raised-full}
 use Rattle.monitor.proofs.counts.raise.Statement.{statement}
 use Rattle.monitor.proofs.counts.raise.Tie as tie
 

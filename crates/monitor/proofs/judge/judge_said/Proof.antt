@@ -4,10 +4,10 @@ use borrow.Author.Needs.{needs}
 use borrow.Author.Tests.{not-true, not-false}
 use Rattle.table.specs.Table.{sort, speaker, is-party}
 use Rattle.table.specs.View.{view}
-use Rattle.message.proofs.Judging.{none-some}
-use Rattle.monitor.specs.Step.{reason, outside}
-use Rattle.monitor.specs.Leaves.{judgement, judged-branch}
-use Rattle.monitor.proofs.Asking.{said-in-turn, said-early}
+use Rattle.message.proofs.laws.Judge.{none-some}
+use Rattle.conversation.specs.Step.{reason, outside}
+use Rattle.monitor.specs.inner.Leaves.{judgement, judged-branch}
+use Rattle.conversation.proofs.laws.Step.{said-in-turn, said-early}
 use Rattle.monitor.proofs.judge.judge_said.Statement.{statement}
 use Rattle.monitor.proofs.judge.judge_said.Tie as tie
 

@@ -5,12 +5,12 @@ use native.Mathlib.Omega.{arith}
 use borrow.Author.Needs.{needs}
 use borrow.Author.Tests.{not-true, not-false}
 use Rattle.message.specs.Message.{legal-texts}
-use Rattle.message.proofs.Reading.{whole-parts}
-use Rattle.monitor.specs.Step.{told, Outcome, refusing, outcome}
-use Rattle.monitor.specs.Counts.{counted}
-use Rattle.monitor.proofs.Asking.{judged-as}
-use Rattle.monitor.proofs.Batching.{due-broken, due-full, due-sound, due-yes, due-whole, due-judged}
-use Rattle.monitor.proofs.Ways.{settles, settled-counted}
+use Rattle.message.proofs.laws.Message.{whole-parts}
+use Rattle.conversation.specs.Step.{told, Outcome, refusing, outcome}
+use Rattle.conversation.specs.Counts.{counted}
+use Rattle.conversation.proofs.laws.Step.{judged-as}
+use Rattle.conversation.proofs.laws.Batch.{due-broken, due-full, due-sound, due-yes, due-whole, due-judged}
+use Rattle.monitor.proofs.laws.CountedStep.{settles, settled-counted}
 use Rattle.monitor.proofs.lane.heard.Statement.{statement}
 use Rattle.monitor.proofs.lane.heard.Tie as tie
 

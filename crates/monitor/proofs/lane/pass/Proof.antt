@@ -2,8 +2,8 @@
 use mathlib.Core.Path.{refl}
 use native.Mathlib.Omega.{arith}
 use borrow.Author.Needs.{needs}
-use Rattle.monitor.specs.Turns.{lane-of}
-use Rattle.monitor.proofs.Passing.{ahead-size, ahead-fits, passed-on}
+use Rattle.monitor.specs.inner.Lanes.{lane-of}
+use Rattle.monitor.proofs.laws.PassedOn.{ahead-size, ahead-fits, passed-on}
 use Rattle.monitor.proofs.lane.pass.Statement.{statement}
 use Rattle.monitor.proofs.lane.pass.Tie as tie
 

@@ -2,9 +2,9 @@
 use mathlib.Core.Path.{refl, _∙_}
 use native.Mathlib.Omega.{arith}
 use borrow.Author.Needs.{needs}
-use Rattle.monitor.specs.Batch.{last-of}
-use Rattle.monitor.specs.Turns.{lane-of}
-use Rattle.monitor.proofs.Looping.{cut-length, got-none, got-due, got-counted, got-used, got-written, got-one}
+use Rattle.conversation.specs.Batch.{last-of}
+use Rattle.monitor.specs.inner.Lanes.{lane-of}
+use Rattle.monitor.proofs.laws.Led.{cut-length, got-none, got-due, got-counted, got-used, got-written, got-one}
 use Rattle.monitor.proofs.lane.take.Statement.{statement}
 use Rattle.monitor.proofs.lane.take.Tie as tie
 

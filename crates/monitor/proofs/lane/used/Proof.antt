@@ -1,7 +1,7 @@
 -- `monitor::lane::used` meets its contract. Assumes nothing.
 use borrow.Author.Needs.{needs}
-use Rattle.monitor.specs.Step.{told}
-use Rattle.monitor.specs.Batch.{used-by}
+use Rattle.conversation.specs.Step.{told}
+use Rattle.conversation.specs.Batch.{used-by}
 use Rattle.monitor.proofs.lane.used.Statement.{statement}
 use Rattle.monitor.proofs.lane.used.Tie as tie
 

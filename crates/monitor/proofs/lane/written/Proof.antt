@@ -1,7 +1,7 @@
 -- `monitor::lane::written` meets its contract. Assumes nothing.
 use borrow.Author.Needs.{needs}
-use Rattle.monitor.specs.Step.{told}
-use Rattle.monitor.specs.Batch.{written-by}
+use Rattle.conversation.specs.Step.{told}
+use Rattle.conversation.specs.Batch.{written-by}
 use Rattle.monitor.proofs.lane.written.Statement.{statement}
 use Rattle.monitor.proofs.lane.written.Tie as tie
 

@@ -11,13 +11,13 @@ use borrow.Author.Count.{below-more}
 use borrow.Author.Tests.{not-false}
 use Rattle.table.specs.Lists.{upto}
 use Rattle.table.specs.View.{kind-at}
-use Rattle.table.specs.Scans.{all}
-use Rattle.table.proofs.Lists.{all-yes, all-end}
+use Rattle.table.specs.inner.Scans.{all}
+use Rattle.table.proofs.laws.Lists.{all-yes, all-end}
 use Rattle.message.specs.Message.{number-at, count-of, text-bytes, legal-value}
-use Rattle.message.proofs.Reading.{value-at, values-places, legal-places, text-within, texts-text, texts-other}
-use Rattle.monitor.specs.Leaves.{kind-is, inside, Facing}
-use Rattle.monitor.proofs.Leaves.{kind-yes, within-range}
-use Rattle.monitor.proofs.Carrying.{value-legal}
+use Rattle.message.proofs.laws.Message.{value-at, values-places, legal-places, text-within, texts-text, texts-other}
+use Rattle.monitor.specs.inner.Leaves.{kind-is, inside, Facing}
+use Rattle.monitor.proofs.laws.Leaves.{kind-yes, within-range}
+use Rattle.monitor.proofs.laws.Carried.{value-legal}
 use Rattle.monitor.proofs.straight.carry.Statement.{statement}
 use Rattle.monitor.proofs.straight.carry.Tie as tie
 

@@ -8,10 +8,10 @@ use lib.Seq.{length-take-le}
 use borrow.Author.Needs.{needs}
 use borrow.Author.Tests.{not-false}
 use Rattle.table.specs.View.{count-at}
-use Rattle.table.proofs.Facts.{Facts, sound-facts}
+use Rattle.table.proofs.laws.View.{Facts, sound-facts}
 use Rattle.message.specs.Message.{count-of, legal-texts}
-use Rattle.message.proofs.Texts.{ascii-behind}
-use Rattle.monitor.specs.Leaves.{Held}
+use Rattle.message.proofs.laws.LegalTexts.{ascii-behind}
+use Rattle.monitor.specs.inner.Leaves.{Held}
 use Rattle.monitor.proofs.straight.held.Statement.{statement}
 use Rattle.monitor.proofs.straight.held.Tie as tie
 

@@ -3,9 +3,9 @@ use mathlib.Core.Path.{_≡_, ap}
 use Prim.Native.Nat.{_<_}
 use native.Mathlib.Omega.{arith}
 use borrow.Author.Needs.{needs}
-use Rattle.table.proofs.Facts.{sound-facts}
+use Rattle.table.proofs.laws.View.{sound-facts}
 use Rattle.monitor.specs.declared.straight.Ahead.{Ahead}
-use Rattle.monitor.proofs.Carrying.{straight}
+use Rattle.monitor.proofs.laws.Carried.{straight}
 use Rattle.monitor.proofs.straight.look_ahead.Statement.{statement}
 use Rattle.monitor.proofs.straight.look_ahead.Tie as tie
 

@@ -3,8 +3,8 @@ use mathlib.Core.Path.{sym, _∙_}
 use native.Mathlib.Omega.{arith}
 use borrow.Author.Needs.{needs}
 use borrow.Author.Tests.{not-false}
-use Rattle.table.proofs.Facts.{sound-facts}
-use Rattle.monitor.proofs.Carrying.{straight, straight-alone}
+use Rattle.table.proofs.laws.View.{sound-facts}
+use Rattle.monitor.proofs.laws.Carried.{straight, straight-alone}
 use Rattle.monitor.proofs.straight.takes.Statement.{statement}
 use Rattle.monitor.proofs.straight.takes.Tie as tie
 

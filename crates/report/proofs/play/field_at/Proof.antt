@@ -3,7 +3,7 @@ use Prim.Native.Nat.{_+_}
 use borrow.Author.Tests.{lt-ltb, le-ltb}
 use borrow.Author.Needs.{needs}
 use Rattle.message.specs.Make.{high-of}
-use Rattle.report.specs.Playing.{high-in}
+use Rattle.report.specs.inner.Playing.{high-in}
 use Rattle.report.proofs.play.field_at.Statement.{statement}
 use Rattle.report.proofs.play.field_at.Tie as tie
 

@@ -7,10 +7,10 @@ use borrow.Author.Needs.{needs}
 use Rattle.table.specs.View.{view}
 use Rattle.message.specs.Message.{read}
 use Rattle.message.specs.Judge.{allows}
-use Rattle.monitor.specs.declared.Started.{Started}
-use Rattle.monitor.specs.declared.Verdict.{Verdict}
-use Rattle.report.specs.Playing.{heard-of}
-use Rattle.report.proofs.Hearing.{heard-as, hears}
+use Rattle.conversation.specs.declared.Started.{Started}
+use Rattle.conversation.specs.declared.Verdict.{Verdict}
+use Rattle.report.specs.inner.Playing.{heard-of}
+use Rattle.report.proofs.laws.HeardAt.{heard-as, hears}
 use Rattle.report.proofs.play.hear.Statement.{statement}
 use Rattle.report.proofs.play.hear.Tie as tie
 

@@ -1,7 +1,7 @@
 -- `report::play::is_device` meets its contract. Assumes nothing.
 use mathlib.Core.Path.{sym, ap}
 use borrow.Author.Needs.{needs}
-use Rattle.report.specs.Playing.{is-device}
+use Rattle.report.specs.inner.Playing.{is-device}
 use Rattle.report.proofs.play.is_device.Statement.{statement}
 use Rattle.report.proofs.play.is_device.Tie as tie
 

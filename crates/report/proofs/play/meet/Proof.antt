@@ -1,7 +1,7 @@
 -- `report::play::meet` meets its contract. Assumes nothing.
 use mathlib.Core.Path.{ap₂, _∙_}
 use borrow.Author.Needs.{needs}
-use Rattle.report.specs.Playing.{settled}
+use Rattle.report.specs.inner.Playing.{settled}
 use Rattle.report.proofs.play.meet.Statement.{statement}
 use Rattle.report.proofs.play.meet.Tie as tie
 

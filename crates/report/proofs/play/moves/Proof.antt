@@ -5,7 +5,7 @@ use native.Mathlib.Omega.{arith}
 use lib.ListN.{take}
 use borrow.Author.Needs.{needs}
 use Rattle.message.specs.Make.{high-of}
-use Rattle.report.proofs.Rounds.{Playing, many, shows-start, shows-length, shows-room, shows-ready, shows-more, shows-end}
+use Rattle.report.proofs.laws.Playing.{Playing, many, shows-start, shows-length, shows-room, shows-ready, shows-more, shows-end}
 use Rattle.report.proofs.play.moves.Statement.{statement}
 use Rattle.report.proofs.play.moves.Tie as tie
 

@@ -5,10 +5,10 @@ use Prim.Native.Nat.{ℕ, _+_, _<_}
 use native.Mathlib.Omega.{arith}
 use lib.ListN.{length}
 use borrow.Author.Needs.{needs}
-use Rattle.table.proofs.Facts.{sound-facts}
+use Rattle.table.proofs.laws.View.{sound-facts}
 use Rattle.message.specs.Make.{high-of}
-use Rattle.message.specs.Layout.{put-at}
-use Rattle.report.proofs.Saying.{branch-there, line-shown, full, short, message-is, never-refused}
+use Rattle.message.specs.inner.Layout.{put-at}
+use Rattle.report.proofs.laws.Lines.{branch-there, line-shown, full, short, message-is, never-refused}
 use Rattle.report.proofs.play.say.Statement.{statement}
 use Rattle.report.proofs.play.say.Tie as tie
 

@@ -3,7 +3,7 @@ use mathlib.Core.Path.{sym, ap, ap₂, _∙_}
 use mathlib.Core.Bool.{Bool}
 use borrow.Author.Needs.{needs}
 use Rattle.report.specs.declared.play.Heard.{Heard}
-use Rattle.report.specs.Playing.{heard-of, settled}
+use Rattle.report.specs.inner.Playing.{heard-of, settled}
 use Rattle.report.proofs.play.settle.Statement.{statement}
 use Rattle.report.proofs.play.settle.Tie as tie
 

@@ -2,8 +2,8 @@
 use Prim.Native.Nat.{_<_}
 use native.Mathlib.Omega.{arith}
 use borrow.Author.Needs.{needs}
-use Rattle.table.proofs.Facts.{sound-facts}
-use Rattle.report.proofs.Moving.{spoken-as, speaks-device, speaks-host}
+use Rattle.table.proofs.laws.View.{sound-facts}
+use Rattle.report.proofs.laws.Effect.{spoken-as, speaks-device, speaks-host}
 use Rattle.report.proofs.play.speak.Statement.{statement}
 use Rattle.report.proofs.play.speak.Tie as tie
 

@@ -10,8 +10,8 @@ use borrow.Author.Needs.{needs}
 use Rattle.table.specs.View.{view}
 use Rattle.message.specs.Message.{read, well-formed}
 use Rattle.message.specs.Judge.{allows}
-use Rattle.report.specs.Playing.{settled}
-use Rattle.report.proofs.Moving.{effect-settled, said-size, both-turn}
+use Rattle.report.specs.inner.Playing.{settled}
+use Rattle.report.proofs.laws.Effect.{effect-settled, said-size, both-turn}
 use Rattle.report.proofs.play.turn.Statement.{statement}
 use Rattle.report.proofs.play.turn.Tie as tie
 

@@ -8,9 +8,9 @@ use lib.ListN.{length, length-set, length-append}
 use borrow.Author.Needs.{needs}
 use borrow.Fn.Kinds.{In}
 use borrow.Fn.PlainCycle.{Measures, is, falls, and}
-use Rattle.message.specs.Layout.{put-at}
-use Rattle.message.proofs.Pieces.{put-one}
-use Rattle.report.proofs.Writing.{put-byte, decimal-last, decimal-tens, decimal-few}
+use Rattle.message.specs.inner.Layout.{put-at}
+use Rattle.message.proofs.laws.Layout.{put-one}
+use Rattle.report.proofs.laws.Written.{put-byte, decimal-last, decimal-tens, decimal-few}
 use Rattle.report.proofs.write.+decimal.{statement}
 use Rattle.report.proofs.write.+decimal.Tie.{close}
 use Rattle.table.specs.Ascii as A

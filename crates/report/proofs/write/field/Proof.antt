@@ -2,7 +2,7 @@
 use native.Mathlib.Omega.{arith}
 use borrow.Author.Needs.{needs}
 use Rattle.message.specs.Make.{high-of}
-use Rattle.message.proofs.Pieces.{put-none}
+use Rattle.message.proofs.laws.Layout.{put-none}
 use Rattle.report.proofs.write.field.Statement.{statement}
 use Rattle.report.specs.Report as R
 use Rattle.report.proofs.write.field.Tie as tie

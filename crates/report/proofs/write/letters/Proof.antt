@@ -9,9 +9,9 @@ use lib.Seq.{take-all}
 use borrow.Author.Needs.{needs}
 use Rattle.table.specs.Ascii.{letters}
 use Rattle.table.specs.View.{label-of}
-use Rattle.message.specs.Layout.{put-at}
-use Rattle.message.proofs.Pieces.{put-none}
-use Rattle.report.proofs.Writing.{put-next, label-few, label-none, label-more, more-there, byte-there, rest-there}
+use Rattle.message.specs.inner.Layout.{put-at}
+use Rattle.message.proofs.laws.Layout.{put-none}
+use Rattle.report.proofs.laws.Written.{put-next, label-few, label-none, label-more, more-there, byte-there, rest-there}
 use Rattle.report.proofs.write.letters.Statement.{statement}
 use Rattle.report.proofs.write.letters.Tie as tie
 

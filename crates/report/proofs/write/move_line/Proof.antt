@@ -4,11 +4,11 @@ use mathlib.Core.List.{[], _∷_, _++_, append-assoc}
 use native.Mathlib.Omega.{arith}
 use lib.ListN.{length}
 use borrow.Author.Needs.{needs}
-use Rattle.message.specs.Layout.{put-at}
+use Rattle.message.specs.inner.Layout.{put-at}
 use Rattle.table.specs.Ascii.{letters}
 use Rattle.table.specs.View.{label-of}
 use Rattle.message.specs.Make.{high-of}
-use Rattle.report.proofs.Writing.{laid-on, high-none}
+use Rattle.report.proofs.laws.Written.{laid-on, high-none}
 use Rattle.report.proofs.write.move_line.Statement.{statement}
 use Rattle.report.specs.Report as R
 use Rattle.report.proofs.write.move_line.Tie as tie

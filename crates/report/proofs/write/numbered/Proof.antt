@@ -2,7 +2,7 @@
 use native.Mathlib.Omega.{arith}
 use borrow.Author.Needs.{needs}
 use Rattle.table.specs.Ascii.{decimal}
-use Rattle.report.proofs.Writing.{laid-on}
+use Rattle.report.proofs.laws.Written.{laid-on}
 use Rattle.report.proofs.write.numbered.Statement.{statement}
 use Rattle.report.proofs.write.numbered.Tie as tie
 

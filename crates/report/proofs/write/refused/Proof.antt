@@ -4,10 +4,10 @@ use mathlib.Core.List.{[], _∷_, _++_, append-assoc}
 use native.Mathlib.Omega.{arith}
 use lib.ListN.{length}
 use borrow.Author.Needs.{needs}
-use Rattle.message.specs.Layout.{put-at}
+use Rattle.message.specs.inner.Layout.{put-at}
 use Rattle.table.specs.Ascii.{ascii, decimal}
-use Rattle.report.specs.Lines.{whose-of}
-use Rattle.report.proofs.Writing.{laid-on}
+use Rattle.report.specs.inner.Lines.{whose-of}
+use Rattle.report.proofs.laws.Written.{laid-on}
 use Rattle.report.proofs.write.refused.Statement.{statement}
 use Rattle.report.specs.Report as R
 use Rattle.report.proofs.write.refused.Tie as tie

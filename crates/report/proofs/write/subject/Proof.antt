@@ -2,7 +2,7 @@
 use mathlib.Core.Path.{_≡_}
 use native.Mathlib.Omega.{arith}
 use borrow.Author.Needs.{needs}
-use Rattle.report.specs.Lines.{whose-of}
+use Rattle.report.specs.inner.Lines.{whose-of}
 use Rattle.report.proofs.write.subject.Statement.{statement}
 use Rattle.report.proofs.write.subject.Tie as tie
 

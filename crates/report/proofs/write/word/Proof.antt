@@ -5,9 +5,9 @@ use native.Mathlib.Omega.{arith}
 use lib.ListN.{length, take, length-set}
 use lib.Seq.{take-all}
 use borrow.Author.Needs.{needs}
-use Rattle.message.specs.Layout.{put-at}
-use Rattle.message.proofs.Pieces.{put-none}
-use Rattle.report.proofs.Writing.{put-next}
+use Rattle.message.specs.inner.Layout.{put-at}
+use Rattle.message.proofs.laws.Layout.{put-none}
+use Rattle.report.proofs.laws.Written.{put-next}
 use Rattle.report.proofs.write.word.Statement.{statement}
 use Rattle.report.proofs.write.word.Tie as tie
 

@@ -1,6 +1,6 @@
 -- `sojimu::batches::sojimu_raw_batch` meets its contract: one law of the parts. Assumes nothing.
 use borrow.Author.Needs.{needs}
-use Rattle.sojimu.proofs.Passing.{batch-crossed}
+use Rattle.codes.proofs.laws.BatchingCodes.{batch-crossed}
 use Rattle.sojimu.proofs.batches.sojimu_raw_batch.Statement.{statement}
 use Rattle.sojimu.proofs.batches.sojimu_raw_batch.Tie as tie
 

@@ -1,7 +1,7 @@
 -- `sojimu::messages::sojimu_raw_front` meets its contract: the length fits 32 bits. Assumes nothing.
 use native.Mathlib.Omega.{arith}
 use borrow.Author.Needs.{needs}
-use Rattle.sojimu.proofs.Lengths.{front-few}
+use Rattle.sojimu.proofs.laws.Announced.{front-few}
 use Rattle.sojimu.proofs.messages.sojimu_raw_front.Statement.{statement}
 use Rattle.sojimu.proofs.messages.sojimu_raw_front.Tie as tie
 

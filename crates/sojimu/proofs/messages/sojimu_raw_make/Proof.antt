@@ -4,8 +4,8 @@ use mathlib.Core.List.{List}
 use Prim.Native.Nat.{ℕ}
 use borrow.Author.Needs.{needs}
 use Rattle.message.specs.Make.{Making}
-use Rattle.sojimu.specs.Codes.{made-codes}
-use Rattle.sojimu.specs.declared.messages.Made.{Made}
+use Rattle.codes.specs.Codes.{made-codes}
+use Rattle.codes.specs.declared.messages.Made.{Made}
 use Rattle.sojimu.proofs.messages.sojimu_raw_make.Statement.{statement}
 use Rattle.sojimu.proofs.messages.sojimu_raw_make.Tie as tie
 

@@ -1,7 +1,7 @@
 -- `sojimu::steps::first_of` meets its contract: the length fits 32 bits. Assumes nothing.
 use native.Mathlib.Omega.{arith}
 use borrow.Author.Needs.{needs}
-use Rattle.sojimu.proofs.Lengths.{first-few}
+use Rattle.sojimu.proofs.laws.Announced.{first-few}
 use Rattle.sojimu.proofs.steps.first_of.Statement.{statement}
 use Rattle.sojimu.proofs.steps.first_of.Tie as tie
 

@@ -1,9 +1,9 @@
 -- `sojimu::steps::sojimu_raw_due` meets its contract. Assumes nothing.
 use mathlib.Core.Path.{sym, ap, _∙_}
 use borrow.Author.Needs.{needs}
-use Rattle.monitor.specs.Due.{of-side, turn-answer}
-use Rattle.monitor.specs.Counts.{counted-turn}
-use Rattle.sojimu.specs.Calls.{due-codes}
+use Rattle.conversation.specs.Due.{of-side, turn-answer}
+use Rattle.conversation.specs.Counts.{counted-turn}
+use Rattle.codes.specs.Calls.{due-codes}
 use Rattle.sojimu.proofs.steps.sojimu_raw_due.Statement.{statement}
 use Rattle.sojimu.proofs.steps.sojimu_raw_due.Tie as tie
 

@@ -1,6 +1,6 @@
 -- `sojimu::steps::sojimu_raw_step` meets its contract: one law of the parts for each return. Assumes nothing.
 use borrow.Author.Needs.{needs}
-use Rattle.sojimu.proofs.Sides.{no-side, crossed, uncrossed}
+use Rattle.sojimu.proofs.laws.Unspoken.{no-side, crossed, uncrossed}
 use Rattle.sojimu.proofs.steps.sojimu_raw_step.Statement.{statement}
 use Rattle.sojimu.proofs.steps.sojimu_raw_step.Tie as tie
 

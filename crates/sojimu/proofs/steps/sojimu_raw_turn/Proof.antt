@@ -1,8 +1,8 @@
 -- `sojimu::steps::sojimu_raw_turn` meets its contract. Assumes nothing.
 use mathlib.Core.Path.{ap, _∙_}
 use borrow.Author.Needs.{needs}
-use Rattle.monitor.specs.Counts.{counted-turn}
-use Rattle.sojimu.specs.Codes.{turn-codes}
+use Rattle.conversation.specs.Counts.{counted-turn}
+use Rattle.codes.specs.Codes.{turn-codes}
 use Rattle.sojimu.proofs.steps.sojimu_raw_turn.Statement.{statement}
 use Rattle.sojimu.proofs.steps.sojimu_raw_turn.Tie as tie
 

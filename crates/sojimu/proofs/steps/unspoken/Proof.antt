@@ -1,9 +1,9 @@
 -- `sojimu::steps::unspoken` meets its contract. Assumes nothing.
 use mathlib.Core.Path.{sym, ap, _∙_}
 use borrow.Author.Needs.{needs}
-use Rattle.monitor.specs.Step.{told}
-use Rattle.monitor.specs.Due.{turn-answer}
-use Rattle.sojimu.specs.Inner.{unspoken}
+use Rattle.conversation.specs.Step.{told}
+use Rattle.conversation.specs.Due.{turn-answer}
+use Rattle.sojimu.specs.inner.Unspoken.{unspoken}
 use Rattle.sojimu.proofs.steps.unspoken.Statement.{statement}
 use Rattle.sojimu.proofs.steps.unspoken.Tie as tie
 

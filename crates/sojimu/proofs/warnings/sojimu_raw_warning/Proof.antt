@@ -1,8 +1,8 @@
 -- `sojimu::warnings::sojimu_raw_warning` meets its contract. Assumes nothing.
 use mathlib.Core.Path.{ap, _∙_}
 use borrow.Author.Needs.{needs}
-use Rattle.monitor.specs.Warning.{warning}
-use Rattle.sojimu.specs.Codes.{warning-codes}
+use Rattle.conversation.specs.Warning.{warning}
+use Rattle.codes.specs.Codes.{warning-codes}
 use Rattle.sojimu.proofs.warnings.sojimu_raw_warning.Statement.{statement}
 use Rattle.sojimu.proofs.warnings.sojimu_raw_warning.Tie as tie
 

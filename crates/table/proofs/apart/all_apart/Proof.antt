@@ -6,10 +6,10 @@ use native.Mathlib.Omega.{arith}
 use lib.ListN.{length-replicate}
 use borrow.Author.Tests.{not-true, not-false}
 use borrow.Author.Needs.{needs}
-use Rattle.bits.proofs.Laws.{with-below}
-use Rattle.table.specs.Scans.{all, alone, mark-of}
-use Rattle.table.proofs.Lists.{all-yes, all-no, all-end}
-use Rattle.table.proofs.Twins.{Filter, filter-none, filter-more, changed}
+use Rattle.bits.proofs.laws.Digits.{with-below}
+use Rattle.table.specs.inner.Scans.{all, alone, mark-of}
+use Rattle.table.proofs.laws.Lists.{all-yes, all-no, all-end}
+use Rattle.table.proofs.laws.Twins.{Filter, filter-none, filter-more, changed}
 use Rattle.table.proofs.apart.all_apart.Statement.{statement}
 use Rattle.table.proofs.apart.all_apart.Tie as tie
 

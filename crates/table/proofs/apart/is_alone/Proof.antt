@@ -6,9 +6,9 @@ use native.Mathlib.Omega.{arith}
 use lib.ListN.{getD}
 use borrow.Author.Needs.{needs}
 use Rattle.table.specs.View.{owner-at}
-use Rattle.table.specs.Scans.{all, twins}
-use Rattle.table.proofs.Lists.{all-yes, all-no, all-end}
-use Rattle.table.proofs.Twins.{twins-are}
+use Rattle.table.specs.inner.Scans.{all, twins}
+use Rattle.table.proofs.laws.Lists.{all-yes, all-no, all-end}
+use Rattle.table.proofs.laws.Twins.{twins-are}
 use Rattle.table.proofs.apart.is_alone.Statement.{statement}
 use Rattle.table.proofs.apart.is_alone.Tie as tie
 

@@ -1,6 +1,6 @@
 -- `table::apart::same_label` meets its contract. Assumes nothing.
 use borrow.Author.Needs.{needs}
-use Rattle.table.proofs.Twins.{same-word}
+use Rattle.table.proofs.laws.Twins.{same-word}
 use Rattle.table.proofs.apart.same_label.Statement.{statement}
 use Rattle.table.proofs.apart.same_label.Tie as tie
 

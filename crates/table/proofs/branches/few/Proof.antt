@@ -7,14 +7,14 @@ use native.Mathlib.Omega.{arith}
 use borrow.Author.Count.{below-more}
 use borrow.Author.Tests.{not-true, not-false}
 use borrow.Author.Needs.{needs}
-use Rattle.bits.proofs.Laws.{with-below}
+use Rattle.bits.proofs.laws.Digits.{with-below}
 use Rattle.table.specs.Table.{legal-label}
 use Rattle.table.specs.View.{word-at, label-of}
-use Rattle.table.specs.Scans.{all, in-order, Word, Members, Unshared}
-use Rattle.table.proofs.Lists.{all-yes, all-end, never}
-use Rattle.table.proofs.Sets.{members-none, members-more, members-end}
-use Rattle.table.proofs.Sums.{none-more}
-use Rattle.table.proofs.Facts.{in-place-parts, in-order-parts, in-order-by, stopped}
+use Rattle.table.specs.inner.Scans.{all, in-order, Word, Members, Unshared}
+use Rattle.table.proofs.laws.Lists.{all-yes, all-end, never}
+use Rattle.table.proofs.laws.Scans.{members-none, members-more, members-end}
+use Rattle.table.proofs.laws.SharesRight.{none-more}
+use Rattle.table.proofs.laws.View.{in-place-parts, in-order-parts, in-order-by, stopped}
 use Rattle.table.proofs.branches.few.Statement.{statement}
 use Rattle.table.proofs.branches.few.Tie as tie
 

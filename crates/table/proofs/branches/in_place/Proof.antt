@@ -2,7 +2,7 @@
 use mathlib.Core.Path.{sym, _∙_}
 use mathlib.Core.Logic.{inl, inr}
 use borrow.Author.Needs.{needs}
-use Rattle.table.proofs.Facts.{in-place-rest, in-place-no}
+use Rattle.table.proofs.laws.View.{in-place-rest, in-place-no}
 use Rattle.table.proofs.branches.in_place.Statement.{statement}
 use Rattle.table.proofs.branches.in_place.Tie as tie
 

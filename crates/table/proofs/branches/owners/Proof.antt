@@ -2,7 +2,7 @@
 use mathlib.Core.Path.{sym, _∙_}
 use borrow.Author.Tests.{not-true, not-false}
 use borrow.Author.Needs.{needs}
-use Rattle.table.proofs.Facts.{passed-places, stopped-label, stopped-twin}
+use Rattle.table.proofs.laws.View.{passed-places, stopped-label, stopped-twin}
 use Rattle.table.proofs.branches.owners.Statement.{statement}
 use Rattle.table.proofs.branches.owners.Tie as tie
 

@@ -5,13 +5,13 @@ use Prim.Native.Nat.{_-_, _≤_}
 use native.Mathlib.Omega.{arith}
 use borrow.Author.Tests.{not-true, not-false}
 use borrow.Author.Needs.{needs}
-use Rattle.bits.proofs.Laws.{with-below}
+use Rattle.bits.proofs.laws.Digits.{with-below}
 use Rattle.table.specs.declared.branches.Passed.{Passed}
-use Rattle.table.specs.Scans.{all, in-place, Members, Unshared}
-use Rattle.table.proofs.Lists.{all-yes, all-no, all-end, never}
-use Rattle.table.proofs.Sets.{members-none, members-more, members-end}
-use Rattle.table.proofs.Sums.{none-more}
-use Rattle.table.proofs.Facts.{in-place-parts}
+use Rattle.table.specs.inner.Scans.{all, in-place, Members, Unshared}
+use Rattle.table.proofs.laws.Lists.{all-yes, all-no, all-end, never}
+use Rattle.table.proofs.laws.Scans.{members-none, members-more, members-end}
+use Rattle.table.proofs.laws.SharesRight.{none-more}
+use Rattle.table.proofs.laws.View.{in-place-parts}
 use Rattle.table.proofs.branches.places.Statement.{statement}
 use Rattle.table.proofs.branches.places.Tie as tie
 

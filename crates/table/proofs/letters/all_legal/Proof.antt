@@ -8,9 +8,9 @@ use borrow.Author.Count.{below-more}
 use borrow.Author.Needs.{needs}
 use Rattle.table.specs.Table.{legal-label}
 use Rattle.table.specs.View.{word-at, label-of}
-use Rattle.table.specs.Scans.{all, clear, Word}
-use Rattle.table.proofs.Lists.{all-end}
-use Rattle.table.proofs.Labels.{clear-more}
+use Rattle.table.specs.inner.Scans.{all, clear, Word}
+use Rattle.table.proofs.laws.Lists.{all-end}
+use Rattle.table.proofs.laws.LegalLabel.{clear-more}
 use Rattle.table.proofs.letters.all_legal.Statement.{statement}
 use Rattle.table.proofs.letters.all_legal.Tie as tie
 

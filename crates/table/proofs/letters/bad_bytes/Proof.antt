@@ -1,6 +1,6 @@
 -- `table::letters::bad_bytes` meets its contract. Assumes nothing.
 use borrow.Author.Needs.{needs}
-use Rattle.table.proofs.Labels.{label-word}
+use Rattle.table.proofs.laws.LegalLabel.{label-word}
 use Rattle.table.proofs.letters.bad_bytes.Statement.{statement}
 use Rattle.table.proofs.letters.bad_bytes.Tie as tie
 

@@ -6,9 +6,9 @@ use Prim.Native.Nat.{_-_, _≤_}
 use native.Mathlib.Omega.{arith}
 use lib.ListN.{getD}
 use borrow.Author.Needs.{needs}
-use Rattle.table.specs.Scans.{all, right-sum}
-use Rattle.table.proofs.Lists.{all-yes, all-no, all-end}
-use Rattle.table.proofs.Sums.{empty-sum, full-sum, wrong-sum}
+use Rattle.table.specs.inner.Scans.{all, right-sum}
+use Rattle.table.proofs.laws.Lists.{all-yes, all-no, all-end}
+use Rattle.table.proofs.laws.SharesRight.{empty-sum, full-sum, wrong-sum}
 use Rattle.table.proofs.shares.all_right.Statement.{statement}
 use Rattle.table.proofs.shares.all_right.Tie as tie
 

@@ -5,9 +5,9 @@ use native.Mathlib.Omega.{arith}
 use borrow.Author.Tests.{lt-leb}
 use borrow.Author.Needs.{needs}
 use Rattle.table.specs.View.{owner-at, share-at}
-use Rattle.table.specs.Scans.{Owned}
-use Rattle.table.proofs.Lists.{refuted, never}
-use Rattle.table.proofs.Sums.{share-most, owner-small, Summed, summed-none, sum-most, summed-more, summed-all}
+use Rattle.table.specs.inner.Scans.{Owned}
+use Rattle.table.proofs.laws.Lists.{refuted, never}
+use Rattle.table.proofs.laws.SharesRight.{share-most, owner-small, Summed, summed-none, sum-most, summed-more, summed-all}
 use Rattle.table.proofs.shares.right.Statement.{statement}
 use Rattle.table.proofs.shares.right.Tie as tie
 

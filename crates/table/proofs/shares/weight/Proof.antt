@@ -1,7 +1,7 @@
 -- `table::shares::weight` meets its contract. Assumes nothing.
 use mathlib.Core.Path.{sym}
 use native.Mathlib.Omega.{arith}
-use Rattle.table.proofs.Sums.{weight-none, weight-some}
+use Rattle.table.proofs.laws.SharesRight.{weight-none, weight-some}
 use Rattle.table.proofs.shares.weight.Statement.{statement}
 use Rattle.table.proofs.shares.weight.Tie as tie
 

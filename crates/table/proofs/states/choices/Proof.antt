@@ -4,8 +4,8 @@ use Prim.Native.Nat.{_≤_, _<_}
 use native.Mathlib.Omega.{arith}
 use borrow.Author.Tests.{lt-leb}
 use borrow.Author.Needs.{needs}
-use Rattle.table.proofs.Lists.{all-no, never}
-use Rattle.table.proofs.Sets.{From, from-none, from-more, from-end, from-choices, from-codes, from-small}
+use Rattle.table.proofs.laws.Lists.{all-no, never}
+use Rattle.table.proofs.laws.Scans.{From, from-none, from-more, from-end, from-choices, from-codes, from-small}
 use Rattle.table.proofs.states.choices.Statement.{statement}
 use Rattle.table.proofs.states.choices.Tie as tie
 

@@ -1,7 +1,7 @@
 -- `text::build::aim_last` meets its contract. Assumes nothing.
 use borrow.Author.Needs.{needs}
 use borrow.Author.Tests.{lt-ltb, le-ltb, le-leb, lt-leb}
-use Rattle.text.specs.Stores.{put-target}
+use Rattle.text.specs.inner.Stores.{put-target}
 use Rattle.text.proofs.build.aim_last.Statement.{statement}
 use Rattle.text.proofs.build.aim_last.Tie as tie
 

@@ -9,9 +9,9 @@ use lib.Dec.{eqb}
 use borrow.Author.Tests.{ne-eqb}
 use borrow.Author.Needs.{needs}
 use Rattle.table.specs.View.{share-at}
-use Rattle.table.specs.Scans.{weight-of, right-sum}
-use Rattle.table.proofs.Sums.{weight-none, weight-some, empty-sum}
-use Rattle.text.proofs.Scans.{Adds, adds-none, adds-other, adds-one, adds-all, adds-over}
+use Rattle.table.specs.inner.Scans.{weight-of, right-sum}
+use Rattle.table.proofs.laws.SharesRight.{weight-none, weight-some, empty-sum}
+use Rattle.text.proofs.laws.FindIn.{Adds, adds-none, adds-other, adds-one, adds-all, adds-over}
 use Rattle.text.proofs.build.shares_right.Statement.{statement}
 use Rattle.text.proofs.build.shares_right.Tie as tie
 

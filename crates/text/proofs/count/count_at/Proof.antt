@@ -3,8 +3,8 @@ use mathlib.Core.Path.{_∙_}
 use mathlib.Core.Logic.{⊎-elim}
 use borrow.Author.Tests.{eq-eqb, ne-eqb}
 use borrow.Author.Needs.{needs}
-use Rattle.text.specs.Recursive.{count-from}
-use Rattle.text.proofs.Values.{kept-in, kept-out, count-is, count-low, count-high, count-int}
+use Rattle.text.specs.inner.Recursive.{count-from}
+use Rattle.text.proofs.laws.NumberRead.{kept-in, kept-out, count-is, count-low, count-high, count-int}
 use Rattle.text.proofs.count.count_at.Statement.{statement}
 use Rattle.text.proofs.count.count_at.Tie as tie
 

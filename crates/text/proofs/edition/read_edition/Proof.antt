@@ -2,7 +2,7 @@
 use mathlib.Core.Path.{refl, ap}
 use lib.ListN.{set}
 use borrow.Author.Needs.{needs}
-use Rattle.text.proofs.Whole.{edition-read, edition-refused}
+use Rattle.text.proofs.laws.ReadText.{edition-read, edition-refused}
 use Rattle.text.proofs.edition.read_edition.Statement.{statement}
 use Rattle.text.proofs.edition.read_edition.Tie as tie
 

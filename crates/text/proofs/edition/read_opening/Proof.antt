@@ -2,7 +2,7 @@
 use mathlib.Core.Path.{ap}
 use lib.ListN.{set}
 use borrow.Author.Needs.{needs}
-use Rattle.text.proofs.Whole.{opening-read, opening-none}
+use Rattle.text.proofs.laws.ReadText.{opening-read, opening-none}
 use Rattle.text.proofs.edition.read_opening.Statement.{statement}
 use Rattle.text.proofs.edition.read_opening.Tie as tie
 

@@ -3,8 +3,8 @@ use mathlib.Core.Path.{_≡_, refl, sym, _∙_}
 use Prim.Native.Nat.{_≤_}
 use native.Mathlib.Omega.{arith}
 use borrow.Author.Needs.{needs}
-use Rattle.text.specs.Recursive.{since-in, since}
-use Rattle.text.proofs.Scans.{since-hit, since-on, since-out}
+use Rattle.text.specs.inner.Recursive.{since-in, since}
+use Rattle.text.proofs.laws.FindIn.{since-hit, since-on, since-out}
 use Rattle.text.proofs.scope.bound_since.Statement.{statement}
 use Rattle.text.proofs.scope.bound_since.Tie as tie
 

@@ -2,8 +2,8 @@
 use mathlib.Core.Path.{_∙_}
 use borrow.Author.Tests.{eq-eqb, ne-eqb}
 use borrow.Author.Needs.{needs}
-use Rattle.text.specs.Recursive.{passed, then-dot, dotted, shared-at}
-use Rattle.text.proofs.Here.{expect-yes, expect-no}
+use Rattle.text.specs.inner.Recursive.{passed, then-dot, dotted, shared-at}
+use Rattle.text.proofs.laws.ExpectAt.{expect-yes, expect-no}
 use Rattle.text.proofs.share.read_share.Statement.{statement}
 use Rattle.text.proofs.share.read_share.Tie as tie
 

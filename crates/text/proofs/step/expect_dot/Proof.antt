@@ -3,7 +3,7 @@ use mathlib.Core.Path.{sym, _∙_}
 use native.Mathlib.Omega.{arith}
 use borrow.Author.Needs.{needs}
 use borrow.Author.Tests.{not-true}
-use Rattle.text.proofs.Here.{dot-passed}
+use Rattle.text.proofs.laws.ExpectAt.{dot-passed}
 use Rattle.text.proofs.step.expect_dot.Statement.{statement}
 use Rattle.text.proofs.step.expect_dot.Tie as tie
 

@@ -3,7 +3,7 @@ use mathlib.Core.Path.{sym, _∙_}
 use native.Mathlib.Omega.{arith}
 use borrow.Author.Needs.{needs}
 use borrow.Author.Tests.{not-true}
-use Rattle.text.proofs.Here.{dots-passed}
+use Rattle.text.proofs.laws.ExpectAt.{dots-passed}
 use Rattle.text.proofs.step.expect_dots.Statement.{statement}
 use Rattle.text.proofs.step.expect_dots.Tie as tie
 

@@ -2,7 +2,7 @@
 use mathlib.Core.Path.{sym, _∙_}
 use native.Mathlib.Omega.{arith}
 use borrow.Author.Needs.{needs}
-use Rattle.text.proofs.Here.{sign-passed}
+use Rattle.text.proofs.laws.ExpectAt.{sign-passed}
 use Rattle.text.proofs.step.expect_sign.Statement.{statement}
 use Rattle.text.proofs.step.expect_sign.Tie as tie
 

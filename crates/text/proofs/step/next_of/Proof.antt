@@ -1,7 +1,7 @@
 -- `text::step::next_of` meets its contract: the tests on the way say which case holds. Assumes nothing.
 use borrow.Author.Needs.{needs}
 use borrow.Author.Tests.{eq-eqb, ne-eqb}
-use Rattle.text.specs.Recursive.{next-of}
+use Rattle.text.specs.inner.Recursive.{next-of}
 use Rattle.text.proofs.step.next_of.Statement.{statement}
 use Rattle.text.proofs.step.next_of.Tie as tie
 

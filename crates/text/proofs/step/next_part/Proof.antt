@@ -2,8 +2,8 @@
 use mathlib.Core.Path.{sym, _∙_}
 use native.Mathlib.Omega.{arith}
 use borrow.Author.Needs.{needs}
-use Rattle.text.specs.Recursive.{next-at}
-use Rattle.text.proofs.Here.{last-passed, comma-passed}
+use Rattle.text.specs.inner.Recursive.{next-at}
+use Rattle.text.proofs.laws.ExpectAt.{last-passed, comma-passed}
 use Rattle.text.proofs.step.next_part.Statement.{statement}
 use Rattle.text.proofs.step.next_part.Tie as tie
 

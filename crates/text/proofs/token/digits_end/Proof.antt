@@ -5,8 +5,8 @@ use native.Mathlib.Omega.{arith}
 use borrow.Author.Needs.{needs}
 use borrow.Author.Tests.{not-true, not-false}
 use lib.ListN.{length}
-use Rattle.text.specs.Scanner.{is-digit, run-end}
-use Rattle.text.proofs.Runs.{run-on, run-off, run-out}
+use Rattle.grammar.specs.inner.Scanner.{is-digit, run-end}
+use Rattle.grammar.proofs.laws.RunOf.{run-on, run-off, run-out}
 use Rattle.text.proofs.token.digits_end.Statement.{statement}
 use Rattle.text.proofs.token.digits_end.Tie as tie
 

@@ -4,8 +4,8 @@ use Prim.Native.Nat.{_-_}
 use native.Mathlib.Omega.{arith}
 use borrow.Author.Tests.{eq-eqb, ne-eqb}
 use lib.ListN.{length}
-use Rattle.text.specs.Scanner.{is-dot, run-end}
-use Rattle.text.proofs.Runs.{run-on, run-off, run-out}
+use Rattle.grammar.specs.inner.Scanner.{is-dot, run-end}
+use Rattle.grammar.proofs.laws.RunOf.{run-on, run-off, run-out}
 use Rattle.text.proofs.token.dots_end.Statement.{statement}
 use Rattle.text.proofs.token.dots_end.Tie as tie
 

@@ -1,7 +1,7 @@
 -- `text::token::in_word` meets its contract: the tests say which of the three ranges is left. Assumes nothing.
 use mathlib.Core.Path.{_∙_}
 use borrow.Author.Needs.{needs}
-use Rattle.text.proofs.Bytes.{in-lower, in-upper, in-digit}
+use Rattle.grammar.proofs.laws.ClassOf.{in-lower, in-upper, in-digit}
 use Rattle.text.proofs.token.in_word.Statement.{statement}
 use Rattle.text.proofs.token.in_word.Tie as tie
 

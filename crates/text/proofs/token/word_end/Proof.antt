@@ -6,8 +6,8 @@ use borrow.Author.Needs.{needs}
 use borrow.Author.Tests.{not-true, not-false}
 use lib.ListN.{length}
 use Rattle.table.specs.Table.{letter-or-digit}
-use Rattle.text.specs.Scanner.{run-end}
-use Rattle.text.proofs.Runs.{run-on, run-off, run-out}
+use Rattle.grammar.specs.inner.Scanner.{run-end}
+use Rattle.grammar.proofs.laws.RunOf.{run-on, run-off, run-out}
 use Rattle.text.proofs.token.word_end.Statement.{statement}
 use Rattle.text.proofs.token.word_end.Tie as tie
 

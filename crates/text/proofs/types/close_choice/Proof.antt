@@ -2,8 +2,8 @@
 use mathlib.Core.Logic.{⊎-elim}
 use native.Mathlib.Omega.{arith}
 use borrow.Author.Needs.{needs}
-use Rattle.text.proofs.Laid.{holds-branches}
-use Rattle.text.proofs.Parts.{close-right, close-wrong}
+use Rattle.grammar.proofs.laws.Holds.{holds-branches}
+use Rattle.text.proofs.laws.HeadAt.{close-right, close-wrong}
 use Rattle.text.proofs.types.close_choice.Statement.{statement}
 use Rattle.text.proofs.types.close_choice.Tie as tie
 

@@ -1,0 +1,101 @@
+-- A batch over codes: what the parts of the call give, and over the codes of a state the monitor's own batch.
+-- Assumes nothing.
+use mathlib.Core.Path.{_≡_, refl, sym, ap, ap₂, _∙_}
+use mathlib.Core.Bool.{Bool, true, false, cond}
+use mathlib.Core.List.{List, [], _∷_}
+use mathlib.Core.Option.{some}
+use Prim.Native.Nat.{ℕ}
+use lib.ListN.{getD}
+use lib.Dec.{eqb}
+use borrow.Author.Tests.{ne-eqb, eq-eqb, eqb-true}
+use Rattle.table.specs.Lists.{first-no}
+use Rattle.table.specs.View.{Words}
+use Rattle.table.proofs.laws.Lists.{both, join, left-fails}
+use Rattle.conversation.specs.declared.State.{State}
+use Rattle.conversation.specs.declared.batch.Batched.{Batched}
+use Rattle.conversation.specs.Step.{refused}
+use Rattle.conversation.specs.Batch.{Batch, batch-questions, begun, last-of, batched}
+use Rattle.conversation.specs.Counts.{Counts, counts-sound, counted-batch}
+use Rattle.conversation.proofs.claims.StepsCounted.{batch-away}
+use Rattle.codes.specs.declared.steps.Verdict.{Verdict}
+use Rattle.codes.specs.declared.batches.Batch as C
+use Rattle.codes.specs.Codes.{standing-code, standing-of, state-of, state-in, state-bytes, last-codes}
+use Rattle.codes.specs.Calls.{batch-codes, stand-for, bytes-for, batch-crossing, batching-codes, CodesBatch, BatchRefused}
+use Rattle.codes.proofs.laws.Codes.{standing-same, state-same}
+
+-- ---- whether two bytes stand for a state
+
+module _ (p c : ℕ) (s : State) where
+  pub other-place : (p ≡ s .position → ⊥) → false ≡ stand-for p c s
+  unfolding stand-for
+  other-place n = sym (left-fails (eqb (standing-code (standing-of c)) (standing-code (s .standing))) (ne-eqb p (s .position) n))
+
+  pub same-place : p ≡ s .position → eqb (standing-code (standing-of c)) (standing-code (s .standing)) ≡ stand-for p c s
+  unfolding stand-for
+  same-place e = rw (eq-eqb p (s .position) e)
+
+module _ (s : State) (bytes : List ℕ) where
+  pub bytes-left : stand-for (getD bytes 0 0) (getD bytes 1 0) s ≡ true → bytes ≡ bytes-for s bytes
+  unfolding bytes-for
+  bytes-left e = rw e
+
+  pub bytes-put : stand-for (getD bytes 0 0) (getD bytes 1 0) s ≡ false → state-bytes s ≡ bytes-for s bytes
+  unfolding bytes-for
+  bytes-put e = rw e
+
+-- ---- the call
+
+module _ (t : Words) (s : State) (bytes : List ℕ) (c : Counts) (device host to-device to-host : List ℕ) (r : Batched) (after : List ℕ) (up : Counts)
+    (td th : List ℕ) (last : Verdict) where
+  pub batch-crossed : s ≡ state-in bytes → (batched r td th, up) ≡ counted-batch t s c device host to-device to-host
+      → after ≡ bytes-for (r .state) bytes → last ≡ last-codes (last-of (r .passed .last))
+      → (
+        record {
+          «used_device» = r .passed .device .used;
+          «used_host» = r .passed .host .used;
+          «written_to_device» = r .passed .host .written;
+          «written_to_host» = r .passed .device .written;
+          last = last;
+          reserved = 0 ∷ 0 ∷ 0 ∷ [];
+        },
+        after,
+        up,
+        td,
+        th,
+      )
+      ≡ batching-codes t bytes c device host to-device to-host
+  unfolding batching-codes batch-crossing batch-codes batched
+  batch-crossed e h k l =
+      rw (k, l)
+      (ap (λ (x : Batch × Counts). batch-crossing x bytes) (h ∙ ap (λ (s : State). counted-batch t s c device host to-device to-host) e))
+
+-- ---- over the codes of a state
+
+pub kept-bytes : (s x : State) → bytes-for x (state-bytes s) ≡ state-bytes x
+unfolding bytes-for stand-for
+kept-bytes s x = by (stand-for (s .position) (standing-code (s .standing)) x) refl
+  where
+    by : (b : Bool) → stand-for (s .position) (standing-code (s .standing)) x ≡ b → cond b (state-bytes s) (state-bytes x) ≡ state-bytes x
+    by false e = refl
+    by true e =
+        let p = both (eqb (s .position) (x .position)) (eqb (standing-code (standing-of (standing-code (s .standing)))) (standing-code (x .standing))) e in
+        ap₂ (λ a c. a ∷ c ∷ []) (eqb-true (s .position) (x .position) (p .0))
+        (sym (ap standing-code (standing-same (s .standing))) ∙ eqb-true _ (standing-code (x .standing)) (p .1))
+
+-- ---- a batch that is refused
+
+pub own-bytes : (p c : ℕ) → stand-for p c (state-of p c) ≡ true
+unfolding stand-for
+own-bytes p c = join (eq-eqb p p refl) (eq-eqb (standing-code (standing-of c)) (standing-code (standing-of c)) refl)
+
+pub nothing-passed : (t : Words) (s : State) (c : Counts) (device host to-device to-host : List ℕ) (q : ℕ)
+    → q ≡ cond (counts-sound t c) (first-no (batch-questions t s)) 9 → (q ≡ 0 → ⊥)
+    → counted-batch t s c device host to-device to-host ≡ (begun s to-device to-host (some (refused q)), c)
+unfolding counted-batch
+nothing-passed t s c device host to-device to-host q e n = by (counts-sound t c) refl e
+  where
+    by : (b : Bool) → counts-sound t c ≡ b → q ≡ cond b (first-no (batch-questions t s)) 9
+        → counted-batch t s c device host to-device to-host ≡ (begun s to-device to-host (some (refused q)), c)
+    by true h e =
+        batch-away t s c h (record { device = device; host = host; «to-device» = to-device; «to-host» = to-host }) q e n
+    by false h e = rw (h, e)

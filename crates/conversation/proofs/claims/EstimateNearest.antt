@@ -1,0 +1,79 @@
+-- The estimate is the nearest whole, no number of the comparison is too large, every branch has a sender, and document 02's example holds.
+-- Assumes nothing.
+use mathlib.Core.Path.{_≡_, refl, sym, ap, subst, _∙_}
+use mathlib.Core.Bool.{Bool, true, false, _&&_, cond}
+use mathlib.Core.Logic.{⊎-elim}
+use mathlib.Core.Option.{Option, some}
+use Prim.Native.Nat.{ℕ, zero, suc, _+_, _-_, _*_, _/_, _≤_, _<_}
+use native.Mathlib.Nat.{le-refl, mul-le-mul, div-mul-le-self, lt-div-mul-add, mul-assoc, mul-comm}
+use native.Mathlib.Omega.{arith}
+use lib.Dec.{leb, ltb}
+use borrow.Author.Tests.{leb-true, leb-false, ltb-true, lt-ltb, le-ltb, eq-eqb, ne-eqb}
+use Rattle.table.specs.Lists.{first-no}
+use Rattle.table.specs.Table.{shares-sum, speaker}
+use Rattle.table.specs.View.{Words, states-of, branches-of, owner-at, share-at, sort-at, sort-of, sound-of, sound-at}
+use Rattle.table.specs.declared.Party.{Party}
+use Rattle.table.specs.declared.Party.the-variants.{Device, Host}
+use Rattle.table.proofs.laws.Lists.{both, decided}
+use Rattle.table.proofs.laws.View.{sound-facts, shares-sound, sort-of-is}
+use Rattle.table.proofs.laws.SharesRight.{share-most}
+use Rattle.message.proofs.laws.Judge.{none-some, some-eq}
+use Rattle.conversation.specs.declared.State.{State}
+use Rattle.conversation.specs.Counts.{Counts, setting-of, n-at, k-at, counts-sound, legal-setting}
+use Rattle.conversation.specs.Warning.{difference, square, warns, rounded, estimate, refused, tells, warning-questions, telling, warning}
+use Rattle.conversation.specs.Warning.{EstimateNearest, WithinBounds, SenderThere, WarningExamples}
+use Rattle.conversation.proofs.laws.Step.{two-yes}
+use Rattle.conversation.proofs.laws.Batch.{sound-parts}
+use Rattle.conversation.proofs.laws.Counts.{counts-sums, Few, counts-few}
+use Rattle.conversation.proofs.laws.Warning.{edge-most, far-most, told}
+
+pub estimate-nearest : EstimateNearest
+unfolding estimate rounded
+estimate-nearest zero k e h = none-some h
+estimate-nearest (suc m) k e h =
+    let n = suc m in
+    let x = 2 * (1000 * k) + n in
+    let q : x / (2 * n) ≡ e = some-eq h in
+    let d : e * (2 * n) ≡ 2 * e * n = sym (mul-assoc e 2 n) ∙ ap (λ y. y * n) (mul-comm e 2) in
+    let a : e * (2 * n) ≤ x = subst (λ y. y * (2 * n) ≤ x) q (div-mul-le-self x (2 * n)) in
+    let b : x < e * (2 * n) + 2 * n = subst (λ y. x < y * (2 * n) + 2 * n) q (lt-div-mul-add (omega arith)) in
+    (omega arith, omega arith)
+
+small : (n k : ℕ) → k ≤ n → (e : ℕ) → estimate n k ≡ some e → e ≤ 1000
+small n k l e h = ⊎-elim (λ y. leb-true e 1000 y) (λ y. absurd (large (leb-false e 1000 y))) (decided (leb e 1000))
+  where
+    x : (2 * e * n ≤ 2 * (1000 * k) + n) × (2 * (1000 * k) + n < 2 * e * n + 2 * n)
+    x = estimate-nearest n k e h
+
+    large : 1000 < e → ⊥
+    large m =
+        let y : 2002 ≤ 2 * e = omega arith in
+        let z : 2002 * n ≤ 2 * e * n = mul-le-mul y (le-refl n) in
+        omega (arith, x .0, x .1, l, z)
+
+pub within-bounds : WithinBounds
+within-bounds t s c b e =
+    let x = told t s c b e in
+    let n = n-at c (owner-at t b) in
+    let k = k-at c b in (
+      x .few .taken,
+      far-most (setting-of c) (share-at t b) n k (x .setting) (x .share) (x .few .selected) (x .few .taken),
+      edge-most (setting-of c) (share-at t b) n k (x .setting) (x .share) (x .few .selected) (x .few .taken),
+      small n k (x .few .taken),
+    )
+
+pub sender-there : SenderThere
+unfolding sort-of speaker
+sender-there t s c b e =
+    let k = told t s c b e in
+    let x = has-sender (sort-at t (owner-at t b)) (k .choice) in
+    (x .0, ap speaker (sort-of-is t (owner-at t b) (k .owner)) ∙ x .1)
+  where
+    has-sender : (x : ℕ) → (x ≡ 0 → ⊥) → (side : Party) × (speaker (sort-of x) ≡ some side)
+    has-sender zero n = absurd (n refl)
+    has-sender (suc zero) n = (Device, refl)
+    has-sender (suc (suc x)) n = (Host, refl)
+
+pub warning-examples : WarningExamples
+unfolding warns square difference
+warning-examples = record { example = refl; within = refl; beyond = refl; edge = refl; past-edge = refl; no-share = refl }

@@ -1,0 +1,25 @@
+-- Laws, each file named for the definition that it is about.
+pub mod ClassOf
+pub mod Columns
+pub mod Good
+pub mod GrammarAllows
+pub mod Holds
+pub mod Legal
+pub mod NameToken
+pub mod OfChoice
+pub mod Opening
+pub mod Packed
+pub mod Padded
+pub mod Prefix
+pub mod Print
+pub mod Questions
+pub mod Reads
+pub mod Refused
+pub mod RunOf
+pub mod RunTokens
+pub mod Spans
+pub mod TableOf
+pub mod TokOf
+pub mod TokenAt
+pub mod Unique
+pub mod WordOf

@@ -1,0 +1,116 @@
+-- A message that goes straight is forwarded on the turn of whoever has it.
+-- Assumes nothing.
+use mathlib.Core.Path.{_≡_, sym, ap, subst, _∙_}
+use mathlib.Core.List.{List, [], _++_, append-nil}
+use mathlib.Core.Option.{some}
+use Prim.Native.Nat.{ℕ, _+_, _-_, _≤_, _<_}
+use native.Mathlib.Omega.{arith}
+use lib.ListN.{length, take, drop, length-drop}
+use lib.Seq.{take-all, drop-drop, drop-length, length-take-le}
+use Rattle.table.specs.Lists.{first-no}
+use Rattle.table.specs.View.{Words, branches-of, target-at, view}
+use Rattle.table.specs.declared.Party.{Party}
+use Rattle.message.specs.Message.{read}
+use Rattle.message.specs.Judge.{allowed, selected, judge}
+use Rattle.message.specs.Make.{opening}
+use Rattle.message.proofs.laws.Message.{formed-framed, formed-legal}
+use Rattle.conversation.specs.declared.State.{State}
+use Rattle.monitor.specs.declared.straight.Ahead.{Ahead}
+use Rattle.conversation.specs.Step.{forwarded, forwarding, judging, step-questions, stepping}
+use Rattle.conversation.specs.Due.{of-side, awaited, first-length}
+use Rattle.conversation.specs.Batch.{Lane, used-by, written-by, taken, taking}
+use Rattle.conversation.specs.Counts.{first-left}
+use Rattle.conversation.specs.inner.Keeping.{moved-to}
+use Rattle.monitor.specs.inner.Leaves.{Leading}
+use Rattle.conversation.specs.inner.Keeping.{Heard, LaneIn}
+use Rattle.monitor.specs.inner.Lanes.{PassedOn}
+use Rattle.conversation.proofs.laws.Step.{judged-as}
+use Rattle.conversation.proofs.laws.Due.{first-within}
+use Rattle.conversation.proofs.laws.Batch.{takes-one, due-yes, due-judged}
+
+-- ---- what is left, as the program has it
+
+pub whole-rest : (k : ℕ) (l : List ℕ) → take (length l - k) (drop k l) ≡ drop k l
+whole-rest k l = take-all (length l - k) (drop k l) (omega (arith, length-drop k l))
+
+pub none-past : (k : ℕ) (l : List ℕ) → k ≤ length l → drop (length l - k) (drop k l) ≡ []
+none-past k l h =
+    let e : k + (length l - k) ≡ length l = omega (arith, h) in
+    drop-drop (length l - k) k l ∙ ap (λ n. drop n l) e ∙ drop-length l
+
+-- ---- a message that goes straight
+
+module _ (t : Words) (position : ℕ) (bytes : List ℕ) (l : Lane) (n r : ℕ)
+    (x : Leading t position (drop (l .used) bytes) (length (drop (l .written) (l .output))) n r) where
+  abbrev rest : List ℕ
+  rest = drop (l .used) bytes
+
+  abbrev room : List ℕ
+  room = drop (l .written) (l .output)
+
+  some-first : first-length rest ≡ 0 → ⊥
+  some-first z = omega (arith, z, x .first, x .nine)
+
+  pub first-there : n ≤ length rest
+  first-there = subst (λ k. k ≤ length rest) (x .first) (first-within rest)
+
+  pub first-size : length (take n rest) ≡ n
+  first-size = length-take-le n rest first-there
+
+  pub goes-straight : (s : State) (side : Party) → s .position ≡ position → awaited t s ≡ of-side side
+      → taking t s side bytes l
+      ≡ record {
+        answer = some forwarded;
+        state = moved-to (target-at t r) s;
+        lane = record { used = l .used + n; written = l .written + n; output = take (l .written) (l .output) ++ opening (take n rest) room };
+      }
+  unfolding taken used-by written-by judging forwarding
+  goes-straight s side e a =
+      takes-one t s side bytes l some-first
+      ∙ ap (λ k. taken k (stepping t s side (take k rest) room) l) (x .first)
+      ∙ ap (λ y. taken n y l) (judged-as t s side (take n rest) room (allowed (target-at t r)) heard
+      (due-judged t s side (take n rest) room now-due ∙ ap (λ p. judge (view t) p (read (take n rest))) e ∙ x .by-branch .judged))
+    where
+      now-due : Heard t s side (take n rest)
+      now-due = record { turn = a; framed = formed-framed (take n rest) (x .formed) }
+
+      heard : first-no (step-questions t s side (take n rest) (length room)) ≡ 0
+      heard = due-yes t s side (take n rest) room now-due (formed-legal (take n rest) (x .formed)) (omega (arith, first-size, x .holds))
+
+  pub goes-by : (r < branches-of t) × (selected (view t) position (read (first-left bytes l)) ≡ some r)
+  unfolding first-left
+  goes-by = (x .by-branch .there, ap (λ k. selected (view t) position (read (take k rest))) (x .first) ∙ x .by-branch .selected-one)
+
+-- as the program has it
+module _ (t : Words) (position : ℕ) (bytes : List ℕ) (l : Lane) (i : LaneIn bytes l) (r : Ahead)
+    (x : Leading t position (take (length bytes - l .used) (drop (l .used) bytes)) (length (l .output) - l .written) (r .length) (r .branch)) where
+  abbrev first : List ℕ
+  first = take (r .length) (take (length bytes - l .used) (drop (l .used) bytes))
+
+  abbrev left : List ℕ
+  left = take (length (l .output) - l .written) (drop (l .written) (l .output))
+
+  ahead : Leading t position (drop (l .used) bytes) (length (drop (l .written) (l .output))) (r .length) (r .branch)
+  ahead =
+      subst (λ k. Leading t position (drop (l .used) bytes) k (r .length) (r .branch)) (sym (length-drop (l .written) (l .output)))
+      (subst (λ b. Leading t position b (length (l .output) - l .written) (r .length) (r .branch)) (whole-rest (l .used) bytes) x)
+
+  pub ahead-size : r .length ≡ length first
+  ahead-size = sym (ap (λ b. length (take (r .length) b)) (whole-rest (l .used) bytes) ∙ first-size t position bytes l (r .length) (r .branch) ahead)
+
+  pub ahead-fits : (8 ≤ length first) × (length first ≤ length left)
+  ahead-fits = (omega (arith, ahead-size, x .nine), rw (whole-rest (l .written) (l .output)) (omega (arith, ahead-size, ahead .holds)))
+
+  pub passed-on : r .branch < 128 → (out : List ℕ) → out ≡ opening first left
+      → PassedOn t position bytes l (take (l .written) (l .output) ++ (out ++ drop (length (l .output) - l .written) (drop (l .written) (l .output)))) r
+  passed-on u out e = record {
+    straight = λ h s side p a.
+        rw (e, whole-rest (l .used) bytes, whole-rest (l .written) (l .output), none-past (l .written) (l .output) (i .written), append-nil)
+        (goes-straight t position bytes l (r .length) (r .branch) ahead s side p a);
+    picked = λ h. goes-by t position bytes l (r .length) (r .branch) ahead;
+    within = λ h. (
+      omega (arith, first-there t position bytes l (r .length) (r .branch) ahead, length-drop (l .used) bytes, i .used),
+      omega (arith, ahead .holds, length-drop (l .written) (l .output), i .written),
+    );
+    stays = λ h. absurd (h u);
+  }

@@ -1,0 +1,8 @@
+-- Laws, each file named for the definition that it is about.
+pub mod Alike
+pub mod Classes
+pub mod Places
+pub mod Prints
+pub mod Speller
+pub mod Spelling
+pub mod StandsAt
