@@ -1,3 +1,3 @@
 -- Laws, each file named for the definition that it is about.
 pub mod Announced
-pub mod Unspoken
+pub mod Parts

@@ -1,2 +1,2 @@
 -- What only the proofs and the functions inside cite. It need not be believed.
-pub mod Unspoken
+pub mod Parts

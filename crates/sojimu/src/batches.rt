@@ -1,10 +1,11 @@
 // The monitor over a scan's worth of messages: single steps on the due messages, in turn, over a lent state.
 ghost use mathlib.Core.Path.{_≡_};
 ghost use Rattle.codes.specs.Calls.{batching-codes};
-use codes::batches;
+ghost use Rattle.sojimu.specs.inner.Parts.{passed-codes};
+use super::steps;
 use codes::batches::Batch;
-use codes::steps;
 use conversation::Counts;
+use conversation::batch::Passed;
 use table::Table;
 
 // A batch. The state's two bytes, position and standing, and its counts are lent and advanced.
@@ -22,10 +23,17 @@ pub extern "C" fn sojimu_raw_batch(
         ≡ batching-codes (now (table .entry)) (now (state .entry)) (now (counts .entry)) (now (device .entry)) (now (host .entry))
         (now («to_device» .entry)) (now («to_host» .entry)) ⌝ }
 {
-    let s = steps::state_of(state[0], state[1]);
+    let s = steps::state_in(state);
     let r = monitor::batch::batch(table, s, counts, device, host, to_device, to_host);
-    batches::renew(state, r.state);
+    codes::batches::renew(state, r.state);
     let passed = r.passed;
+    tell(passed)
+}
+
+// What was passed, and the last answer.
+fn tell(passed: Passed) -> Batch
+    ensures { λ r. ⌜ r ≡ passed-codes passed ⌝ }
+{
     let from_device = passed.device;
     let from_host = passed.host;
     let last = passed.last;
@@ -34,7 +42,7 @@ pub extern "C" fn sojimu_raw_batch(
         used_host: from_host.used,
         written_to_device: from_host.written,
         written_to_host: from_device.written,
-        last: batches::last_codes(last),
+        last: codes::batches::last_codes(last),
         reserved: [0, 0, 0],
     }
 }

@@ -1,6 +1,5 @@
 // The fit check.
 ghost use Rattle.codes.specs.Calls.{Checked};
-use codes::fits;
 use codes::fits::Fit;
 use table::Table;
 
@@ -10,5 +9,5 @@ pub extern "C" fn sojimu_raw_fit(device: &Table, protocol: &Table, list: &mut [u
     ensures { λ r. ⌜ Checked (now (device .entry)) (now (protocol .entry)) (now (list .entry)) (now (list .exit)) r ⌝ }
 {
     let r = fit::check(device, protocol, list);
-    fits::fit_codes(r)
+    codes::fits::fit_codes(r)
 }

@@ -3,7 +3,6 @@ ghost use mathlib.Core.Path.{_≡_};
 ghost use Rattle.message.specs.Message.{has-label, front-of, broken, refusal};
 ghost use Rattle.message.specs.Make.{making};
 ghost use Rattle.codes.specs.Codes.{head-codes, named-by, made-codes};
-use codes::messages;
 use codes::messages::Head;
 use codes::messages::Made;
 use table::Table;
@@ -52,9 +51,9 @@ pub extern "C" fn sojimu_raw_make(table: &Table, branch: u32, named: u32, out: &
 {
     let r = message::make(
         table,
-        messages::branch_of(branch),
-        messages::high_of(named),
+        codes::messages::branch_of(branch),
+        codes::messages::high_of(named),
         out,
     );
-    messages::made_codes(r)
+    codes::messages::made_codes(r)
 }

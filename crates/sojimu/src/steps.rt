@@ -5,8 +5,7 @@ ghost use Rattle.conversation.specs.Due.{first-length};
 ghost use Rattle.conversation.specs.Counts.{starting, counted-turn};
 ghost use Rattle.codes.specs.Codes.{turn-codes, state-in, started-codes};
 ghost use Rattle.codes.specs.Calls.{step-codes, due-codes};
-ghost use Rattle.sojimu.specs.inner.Unspoken.{unspoken};
-use codes::steps;
+ghost use Rattle.sojimu.specs.inner.Parts.{unspoken};
 use codes::steps::Due;
 use codes::steps::Started;
 use codes::steps::State;
@@ -22,18 +21,31 @@ pub extern "C" fn sojimu_fresh(table: &Table, setting: u32) -> Started
     ensures { λ r. ⌜ r ≡ started-codes (starting (now (table .entry)) setting) ⌝ }
 {
     let r = questions::fresh(table, setting);
+    started_codes(r)
+}
+
+fn started_codes(r: conversation::Started) -> Started
+    ensures { λ s. ⌜ s ≡ started-codes r ⌝ }
+{
     let s = r.state;
     let counts = r.counts;
     let standing = s.standing;
     let state = State {
         position: s.position,
-        standing: steps::standing_code(standing),
+        standing: codes::steps::standing_code(standing),
         counts,
     };
     Started {
         question: r.question as u32,
         state,
     }
+}
+
+// The state that two lent bytes stand for.
+pub fn state_in(state: &[u8; 2]) -> conversation::State
+    ensures { λ r. ⌜ r ≡ state-in (now (state .entry)) ⌝ }
+{
+    codes::steps::state_of(state[0], state[1])
 }
 
 // One step. The state's two bytes, position and standing, and its counts are lent and advanced.
@@ -49,16 +61,16 @@ pub extern "C" fn sojimu_raw_step(
     ensures { λ r. ⌜ (r, now (state .exit), now (counts .exit), now (out .exit))
         ≡ step-codes (now (table .entry)) (now (state .entry)) (now (counts .entry)) side (now (message .entry)) (now (out .entry)) ⌝ }
 {
-    let s = steps::state_of(state[0], state[1]);
+    let s = state_in(state);
     if 1 < side {
         let refusal = unspoken(table, s, counts);
-        return steps::verdict_codes(refusal);
+        return codes::steps::verdict_codes(refusal);
     }
-    let speaker = steps::party_of(side);
+    let speaker = codes::steps::party_of(side);
     let r = monitor::step(table, s, counts, speaker, message, out);
-    steps::keep(state, r);
+    codes::steps::keep(state, r);
     let verdict = r.verdict;
-    steps::verdict_codes(verdict)
+    codes::steps::verdict_codes(verdict)
 }
 
 // The refusal of what no side says: by 9, 10 or 11, else by 12. It is never judged, and nobody is blamed for it.
@@ -77,9 +89,9 @@ fn unspoken(table: &Table, s: conversation::State, counts: &Counts) -> conversat
 pub extern "C" fn sojimu_raw_turn(table: &Table, state: &[u8; 2], counts: &Counts) -> Turn
     ensures { λ r. ⌜ r ≡ turn-codes (counted-turn (now (table .entry)) (state-in (now (state .entry))) (now (counts .entry))) ⌝ }
 {
-    let s = steps::state_of(state[0], state[1]);
+    let s = state_in(state);
     let turn = questions::whose_turn(table, s, counts);
-    steps::turn_codes(turn)
+    codes::steps::turn_codes(turn)
 }
 
 // The due part, as a side and a length.
@@ -94,7 +106,7 @@ pub extern "C" fn sojimu_raw_due(
     ensures { λ r. ⌜ r ≡ due-codes (counted-turn (now (table .entry)) (state-in (now (state .entry))) (now (counts .entry)))
         (now (device .entry)) (now (host .entry)) ⌝ }
 {
-    let s = steps::state_of(state[0], state[1]);
+    let s = state_in(state);
     let turn = questions::whose_turn(table, s, counts);
     match turn {
         conversation::Turn::Refused(_) => Due { side: 0, length: 0 },

@@ -1,11 +1,11 @@
 // Whether a branch is picked far too often or too seldom for its share, and the estimate of its share.
 ghost use mathlib.Core.Path.{_≡_};
-ghost use Rattle.conversation.specs.Warning.{warning};
-ghost use Rattle.codes.specs.Codes.{state-in, warning-codes};
-use codes::steps;
-use codes::warnings;
+ghost use Rattle.conversation.specs.Warning.{warning, estimate-of, notice-of};
+ghost use Rattle.codes.specs.Codes.{state-in, estimate-code, warning-codes};
+use super::steps;
 use codes::warnings::Warning;
 use conversation::Counts;
+use conversation::warning::Estimate;
 use table::Table;
 
 // Asks 9 of the table and the state, then 18.
@@ -18,7 +18,35 @@ pub extern "C" fn sojimu_raw_warning(
 ) -> Warning
     ensures { λ r. ⌜ r ≡ warning-codes (warning (now (table .entry)) (state-in (now (state .entry))) (now (counts .entry)) branch) ⌝ }
 {
-    let s = steps::state_of(state[0], state[1]);
+    let s = steps::state_in(state);
     let r = questions::warning::of_branch(table, s, counts, branch);
-    warnings::warning_codes(r)
+    warning_codes(r)
+}
+
+fn warning_codes(w: conversation::warning::Warning) -> Warning
+    ensures { λ r. ⌜ r ≡ warning-codes (notice-of w) ⌝ }
+{
+    match w {
+        conversation::warning::Warning::Refused(question) => Warning {
+            question: question as u32,
+            warns: 0,
+            sender: 0,
+            estimate: 65535,
+        },
+        conversation::warning::Warning::Tells(warns, side, e) => Warning {
+            question: 0,
+            warns: if warns { 1 } else { 0 },
+            sender: codes::steps::party_code(side) as u32,
+            estimate: estimate_code(e),
+        },
+    }
+}
+
+fn estimate_code(e: Estimate) -> u32
+    ensures { λ r. ⌜ r ≡ estimate-code (estimate-of e) ⌝ }
+{
+    match e {
+        Estimate::NoneYet => 65535,
+        Estimate::Thousandths(n) => n,
+    }
 }

@@ -43,32 +43,6 @@ module _ (s : State) (bytes : List ℕ) where
   unfolding bytes-for
   bytes-put e = rw e
 
--- ---- the call
-
-module _ (t : Words) (s : State) (bytes : List ℕ) (c : Counts) (device host to-device to-host : List ℕ) (r : Batched) (after : List ℕ) (up : Counts)
-    (td th : List ℕ) (last : Verdict) where
-  pub batch-crossed : s ≡ state-in bytes → (batched r td th, up) ≡ counted-batch t s c device host to-device to-host
-      → after ≡ bytes-for (r .state) bytes → last ≡ last-codes (last-of (r .passed .last))
-      → (
-        record {
-          «used_device» = r .passed .device .used;
-          «used_host» = r .passed .host .used;
-          «written_to_device» = r .passed .host .written;
-          «written_to_host» = r .passed .device .written;
-          last = last;
-          reserved = 0 ∷ 0 ∷ 0 ∷ [];
-        },
-        after,
-        up,
-        td,
-        th,
-      )
-      ≡ batching-codes t bytes c device host to-device to-host
-  unfolding batching-codes batch-crossing batch-codes batched
-  batch-crossed e h k l =
-      rw (k, l)
-      (ap (λ (x : Batch × Counts). batch-crossing x bytes) (h ∙ ap (λ (s : State). counted-batch t s c device host to-device to-host) e))
-
 -- ---- over the codes of a state
 
 pub kept-bytes : (s x : State) → bytes-for x (state-bytes s) ≡ state-bytes x

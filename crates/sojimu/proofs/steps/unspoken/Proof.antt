@@ -3,7 +3,7 @@ use mathlib.Core.Path.{sym, ap, _∙_}
 use borrow.Author.Needs.{needs}
 use Rattle.conversation.specs.Step.{told}
 use Rattle.conversation.specs.Due.{turn-answer}
-use Rattle.sojimu.specs.inner.Unspoken.{unspoken}
+use Rattle.sojimu.specs.inner.Parts.{unspoken}
 use Rattle.sojimu.proofs.steps.unspoken.Statement.{statement}
 use Rattle.sojimu.proofs.steps.unspoken.Tie as tie
 

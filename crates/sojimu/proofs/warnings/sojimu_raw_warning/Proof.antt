@@ -9,16 +9,14 @@ use Rattle.sojimu.proofs.warnings.sojimu_raw_warning.Tie as tie
 returns : tie.Need-returns
 returns c =
     let x = c .before .before in
-    let a = x .before .before .before .args in
+    let a = x .before .args in
     c .warning-codes .ensures
-    ∙ ap warning-codes (c .before .of-branch .ensures ∙ ap (λ s. warning (a .table .now) s (a .counts .now) (a .branch)) (x .state-of .ensures))
+    ∙ ap warning-codes (c .before .of-branch .ensures ∙ ap (λ s. warning (a .table .now) s (a .counts .now) (a .branch)) (x .state-in .ensures))
 
 pub sojimu-raw-warning-spec : {M : Type 1} → statement M
 sojimu-raw-warning-spec =
     tie.close
     (tie.spec
-    (λ c. search needs)
-    (λ c. search needs)
     (λ c κs. search needs)
     (λ c κs. search needs)
     (λ c κs. search needs)

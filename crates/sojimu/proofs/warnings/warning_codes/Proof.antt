@@ -5,8 +5,8 @@ use mathlib.Core.Bool.{Bool, true, false, cond}
 use Prim.Native.Nat.{ℕ}
 use borrow.Author.Needs.{needs}
 use Rattle.conversation.specs.Warning.{notice-of}
-use Rattle.codes.proofs.warnings.warning_codes.Statement.{statement}
-use Rattle.codes.proofs.warnings.warning_codes.Tie as tie
+use Rattle.sojimu.proofs.warnings.warning_codes.Statement.{statement}
+use Rattle.sojimu.proofs.warnings.warning_codes.Tie as tie
 
 -- the code of a bool
 coded : {v w : Bool} {n : ℕ} → n ≡ cond v 1 0 → w ≡ v → n ≡ cond w 1 0

@@ -1,8 +1,8 @@
 -- `sojimu::warnings::estimate_code` meets its contract. Assumes nothing.
 use borrow.Author.Needs.{needs}
 use Rattle.conversation.specs.Warning.{estimate-of}
-use Rattle.codes.proofs.warnings.estimate_code.Statement.{statement}
-use Rattle.codes.proofs.warnings.estimate_code.Tie as tie
+use Rattle.sojimu.proofs.warnings.estimate_code.Statement.{statement}
+use Rattle.sojimu.proofs.warnings.estimate_code.Tie as tie
 
 returns : tie.Need-returns
 unfolding estimate-of
