@@ -3,7 +3,7 @@ ghost use mathlib.Core.Path.{_≡_};
 ghost use Rattle.conversation.specs.Step.{told};
 ghost use Rattle.conversation.specs.Due.{first-length};
 ghost use Rattle.conversation.specs.Counts.{starting, counted-turn};
-ghost use Rattle.codes.specs.Codes.{turn-codes, state-in, started-codes};
+ghost use Rattle.codes.specs.Codes.{turn-codes, standing-code, state-in, started-codes};
 ghost use Rattle.codes.specs.Calls.{step-codes, due-codes};
 ghost use Rattle.sojimu.specs.inner.Parts.{unspoken};
 use codes::steps::Due;
@@ -21,23 +21,22 @@ pub extern "C" fn sojimu_fresh(table: &Table, setting: u32) -> Started
     ensures { λ r. ⌜ r ≡ started-codes (starting (now (table .entry)) setting) ⌝ }
 {
     let r = questions::fresh(table, setting);
-    started_codes(r)
-}
-
-fn started_codes(r: conversation::Started) -> Started
-    ensures { λ s. ⌜ s ≡ started-codes r ⌝ }
-{
     let s = r.state;
     let counts = r.counts;
+    Started {
+        question: r.question as u32,
+        state: state_codes(s, counts),
+    }
+}
+
+fn state_codes(s: conversation::State, counts: Counts) -> State
+    ensures { λ r. ⌜ r ≡ record { position = s .position; standing = standing-code (s .standing); counts = counts } ⌝ }
+{
     let standing = s.standing;
-    let state = State {
+    State {
         position: s.position,
         standing: codes::steps::standing_code(standing),
         counts,
-    };
-    Started {
-        question: r.question as u32,
-        state,
     }
 }
 
@@ -61,7 +60,7 @@ pub extern "C" fn sojimu_raw_step(
     ensures { λ r. ⌜ (r, now (state .exit), now (counts .exit), now (out .exit))
         ≡ step-codes (now (table .entry)) (now (state .entry)) (now (counts .entry)) side (now (message .entry)) (now (out .entry)) ⌝ }
 {
-    let s = state_in(state);
+    let s = codes::steps::state_of(state[0], state[1]);
     if 1 < side {
         let refusal = unspoken(table, s, counts);
         return codes::steps::verdict_codes(refusal);
