@@ -9,3 +9,4 @@ pub mod Table
 pub mod Twins
 pub mod Unshared
 pub mod View
+pub mod Words

@@ -1,6 +1,6 @@
 -- A run taken a byte at a time, and two lists compared an element at a time: where each loop stands. Assumes nothing.
-use mathlib.Core.Path.{_≡_, refl, ap}
-use mathlib.Core.Bool.{cond, Bool, true, false}
+use mathlib.Core.Path.{_≡_, refl, sym, ap, _∙_}
+use mathlib.Core.Bool.{cond, not, Bool, true, false}
 use mathlib.Core.List.{List, [], _∷_}
 use Prim.Native.Nat.{ℕ, suc, _+_, _≤_, _<_}
 use native.Mathlib.Numerals.{add-one}
@@ -8,7 +8,7 @@ use native.Mathlib.Omega.{arith}
 use lib.Dec.{eqb}
 use lib.ListN.{length, drop, getD, drop-of-length-le, length-drop}
 use lib.Seq.{drop-cons}
-use borrow.Author.Tests.{eq-eqb, ne-eqb}
+use borrow.Author.Tests.{eq-eqb, ne-eqb, not-true, not-false}
 use Rattle.grammar.specs.inner.Scanner.{run-of, run-end}
 use Rattle.table.specs.Lists.{same, matched}
 use Rattle.table.proofs.laws.Lists.{right-fails}
@@ -27,6 +27,17 @@ run-off f s i h e = rw (drop-cons s i 0 h, e) (omega arith)
 pub run-out : (f : ℕ → Bool) (s : List ℕ) (i : ℕ) → length s ≤ i → run-end f s i ≡ i
 unfolding run-of run-end
 run-out f s i h = rw (drop-of-length-le s h) (omega arith)
+
+-- a loop that started at p has come to i, within the run, and a test of the byte there says r: it goes on, or stops; or the list has ended
+module _ (f : ℕ → Bool) (s : List ℕ) (p i : ℕ) (v : run-end f s p ≡ run-end f s i) where
+  pub loop-on : (r : Bool) → i < length s → r ≡ f (getD s i 0) → not r ≡ false → run-end f s p ≡ run-end f s (i + 1)
+  loop-on r h e t = v ∙ run-on f s i h (sym e ∙ not-false r t)
+
+  pub loop-off : (r : Bool) → i < length s → r ≡ f (getD s i 0) → not r ≡ true → i ≡ run-end f s p
+  loop-off r h e t = sym (v ∙ run-off f s i h (sym e ∙ not-true r t))
+
+  pub loop-out : length s ≤ i → i ≡ run-end f s p
+  loop-out h = sym (v ∙ run-out f s i h)
 
 -- a run ends at or after its start, and within the list
 pub run-from : (f : ℕ → Bool) (s : List ℕ) (p : ℕ) → p ≤ run-end f s p

@@ -15,7 +15,7 @@ use borrow.Author.Tests.{ltb-true, ltb-false, lt-ltb, le-ltb, ne-eqb, eq-eqb}
 use Rattle.table.specs.View.{label-of}
 use Rattle.message.specs.inner.Layout.{put-at}
 use Rattle.message.proofs.laws.Layout.{put-length, put-put, put-one}
-use Rattle.report.specs.Report.{high-part}
+use Rattle.report.specs.Report.{line, high-part}
 use Rattle.table.specs.Ascii.{letters, digits, decimal}
 
 -- ---- a piece behind a piece
@@ -33,6 +33,13 @@ Laid at p b₀ b r = (r ≡ at + length p) × (b ≡ put-at at p b₀)
 
 pub laid-on : (at : ℕ) (p q b₀ b₁ b₂ : List ℕ) (i r : ℕ) → i ≤ length b₀ → Laid at p b₀ b₁ i → Laid i q b₁ b₂ r → Laid at (p ++ q) b₀ b₂ r
 laid-on at p q b₀ b₁ b₂ i r fits (e, f) (g, h) = (omega (arith, length-append p q), h ∙ put-after at i p b₀ b₁ e fits f q)
+
+-- a line of at most m bytes, of which the text is put before its end
+pub line-laid : (m : ℕ) (text b₀ b₁ b₂ : List ℕ) (i r : ℕ) → i < m → m ≤ length b₀ → Laid 0 text b₀ b₁ i → Laid i (10 ∷ []) b₁ b₂ r
+    → (r ≡ length (line text)) × (r ≤ m) × (b₂ ≡ put-at 0 (line text) b₀)
+unfolding line
+line-laid m text b₀ b₁ b₂ i r l fits p q =
+    let e = laid-on 0 text (10 ∷ []) b₀ b₁ b₂ i r (omega arith) p q in (omega (arith, e .0), omega (arith, q .0), e .1)
 
 -- ---- a text byte by byte
 

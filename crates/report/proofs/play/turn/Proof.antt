@@ -1,14 +1,13 @@
 -- `report::play::turn` meets its contract. Assumes nothing.
-use mathlib.Core.Path.{_≡_, sym, ap, subst, _∙_}
-use mathlib.Core.Bool.{true}
+use mathlib.Core.Path.{sym, ap, _∙_}
 use mathlib.Core.List.{List}
-use Prim.Native.Nat.{ℕ, _≤_}
+use Prim.Native.Nat.{ℕ}
 use native.Mathlib.Omega.{arith}
-use lib.ListN.{length, length-replicate}
+use lib.ListN.{length-replicate}
 use lib.Seq.{length-take-le}
 use borrow.Author.Needs.{needs}
 use Rattle.table.specs.View.{view}
-use Rattle.message.specs.Message.{read, well-formed}
+use Rattle.message.specs.Message.{read}
 use Rattle.message.specs.Judge.{allows}
 use Rattle.report.specs.inner.Playing.{settled}
 use Rattle.report.proofs.laws.Effect.{effect-settled, said-size, both-turn}
@@ -35,8 +34,8 @@ meet-requires c κs =
     let u = both-turn (s .pre .0) (w .turn) in (
       u .0,
       u .1,
-      subst (λ (x : List ℕ). well-formed x ≡ true) (sym (w .said .message-is)) (s .pre .0 .speaking .formed),
-      subst (λ (x : List ℕ). length x ≤ 285) (sym (w .said .message-is)) (said-size (w .said)),
+      rw (w .said .message-is) (s .pre .0 .speaking .formed),
+      rw (w .said .message-is) (said-size (w .said)),
     )
 
 returns : tie.Need-returns
