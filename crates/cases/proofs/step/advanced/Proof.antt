@@ -35,12 +35,11 @@ use denote.Laws.{Is, shows}
 use denote.Memory.{mem, partAt}
 use denote.Lend.{lends-ref, ref-back}
 use denote.Builtin.{u8}
-use denote.Ref.{RefT, MutRef, ptr-vals, mut-tells, shr-tells, shr-copy}
+use denote.Ref.{RefT, MutRef, ShrRef, ptr-vals, mut-tells, shr-tells, shr-copy}
 use denote.Slice.{MutSlice, ShrSlice, slice-vals, finally, mut-slice-tells, shr-slice-tells, shr-slice-copy, mut-slice-lawful, shr-slice-lawful}
-use denote.Signature.{plain, typesAt}
+use denote.Signature.{plain}
 use denote.Steps.{only, owned, peeks, heard, nothing}
 use denote.Triple.Entry.{onEntry}
-use denote.Triple.Bound.{passed}
 use denote.Triple.Spec.{tripleOf}
 use denote.Triple.Call.{calls-at}
 use denote.Triple.Clauses.{ensured, lasts}
@@ -144,9 +143,9 @@ module _ {M : Type 1} (𝓤 : URA M) (H : Heap 𝓤) (A : Atoms 𝓤) (W : Given
   result-is z v u is-z is-v = LL.owes R.the-type R′.the-laws (result z v) (is-z, (subst (Is J.the-row v) (EL.tells J.the-type J′.the-laws v (u ∷ []) is-v) is-v, tt))
 
   module _ (C : Calls 𝓤 H) (Λ : Loops 𝓤 H) (fm : FmC 𝓤 H (W .laws) C) (known : Triple 𝓤 (C #monitor·advance) (AdvanceC 𝓤 H A at-mem run)) where
-    walk : ent 𝓤 (onEntry 𝓤 H A f.signature (bound .0 .0) (bound .0 .1) (bound .0 .3) (bound .0 .4)) (WpFn 𝓤 H C Λ code.function (passed 𝓤 H A f.signature (bound .0)) Post)
+    walk : ent 𝓤 (onEntry 𝓤 H A f.signature (bound .0 .0) (bound .0 .1) (bound .0 .3) (bound .0 .4)) (WpFn 𝓤 H C Λ code.function (only (ptr-vals t) ∷ sval h ∷ only (ptr-vals c) ∷ EL.val P.the-type P′.the-laws sd ∷ only (slice-vals x) ∷ only (slice-vals y) ∷ []) Post)
     walk =
-        qed W (tokens ∷ ‵ (owns (typesAt (f.signature .params) (bound .0 .0)) (bound .0 .3) (bound .0 .4)) ∷ []) ∵ enter ! C Λ code.function _ _ $
+        qed W (tokens ∷ ‵ (owns (ShrRef (named 0) κ₀ T ∷ S.the-row ∷ MutRef (named 1) κ₁ N ∷ P.the-row ∷ ShrSlice (named 2) κ₂ u8 ∷ MutSlice (named 3) κ₃ u8 ∷ []) (bound .0 .3) (bound .0 .4)) ∷ []) ∵ enter ! C Λ code.function _ _ $
         alloc1 ! (λ l₀. alloc1 ! (λ l₁. alloc1 ! (λ l₂. alloc1 ! (λ l₃. alloc1 ! (λ l₄. alloc1 ! (λ l₅. alloc1 ! (λ l₆. alloc1 ! (λ l₇. alloc1 ! (λ l₈. alloc1 ! (λ l₉. alloc1 ! (λ l₁₀. alloc1 ! (λ l₁₁. alloc1 ! (λ l₁₂. alloc1 ! (λ l₁₃. alloc0 ! $ params1 ! $
         pass1 ! (init ! 24 refl (tt, tt)) $ pass1 ! (init ! 22 refl (LL.lawful S.the-type S′.the-laws 𝓤 H A W .typed h _ is-h .0)) $ pass1 ! (init ! 20 refl (tt, tt)) $ pass1 ! (init ! 18 refl (EL.lawful P.the-type P′.the-laws 𝓤 H A W tt .typed sd _ is-sd .0)) $
         pass1 ! (init ! 16 refl (shr-slice-lawful 𝓤 H A W (named 2) κ₂ u8 .typed x _ is-x .0)) $ pass1 ! (init ! 14 refl (mut-slice-lawful 𝓤 H A W (named 3) κ₃ u8 .typed y _ is-y .0)) $ pass0 ! $

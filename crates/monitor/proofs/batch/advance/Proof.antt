@@ -30,13 +30,12 @@ use denote.RattleType.{owns}
 use denote.Laws.{Is, shows}
 use denote.Memory.{mem}
 use denote.Builtin.{u8}
-use denote.Ref.{RefT, ptr-vals, mut-tells, shr-tells, shr-copy}
+use denote.Ref.{RefT, MutRef, ShrRef, ptr-vals, mut-tells, shr-tells, shr-copy}
 use denote.Slice.{MutSlice, ShrSlice, slice-vals, finally, mut-slice-tells, shr-slice-tells, shr-slice-copy, mut-slice-lawful, shr-slice-lawful}
-use denote.Signature.{plain, typesAt}
+use denote.Signature.{plain}
 use denote.Steps.{only, opens, closes, owned, peeks, heard, nothing}
 use denote.Struct.Steps.{spelt}
 use denote.Triple.Entry.{onEntry}
-use denote.Triple.Bound.{passed}
 use denote.Triple.Spec.{tripleOf}
 use denote.Triple.Call.{calls-at}
 use denote.Triple.Clauses.{ensured, lasts}
@@ -120,9 +119,9 @@ module _ {M : Type 1} (𝓤 : URA M) (H : Heap 𝓤) (A : Atoms 𝓤) (W : Given
   passed-is r u is = LL.owed R.the-type R′.the-laws r (u ∷ []) is .1 .0
 
   module _ (C : Calls 𝓤 H) (Λ : Loops 𝓤 H) (fm : FmC 𝓤 H (W .laws) C) (known : Triple 𝓤 (C #batch) (BatchC 𝓤 H A at-mem run)) where
-    walk : ent 𝓤 (onEntry 𝓤 H A f.signature (bound .0 .0) (bound .0 .1) (bound .0 .3) (bound .0 .4)) (WpFn 𝓤 H C Λ code.function (passed 𝓤 H A f.signature (bound .0)) Post)
+    walk : ent 𝓤 (onEntry 𝓤 H A f.signature (bound .0 .0) (bound .0 .1) (bound .0 .3) (bound .0 .4)) (WpFn 𝓤 H C Λ code.function (only (ptr-vals t) ∷ vptr b o ∷ only (ptr-vals c) ∷ only (slice-vals x) ∷ only (slice-vals w) ∷ only (slice-vals y) ∷ only (slice-vals z) ∷ []) Post)
     walk =
-        qed W ((‵ (flft κ₀ q₀) ⊛ ‵ (flft κ₁ q₁) ⊛ ‵ (flft κ₂ q₂) ⊛ ‵ (flft κ₃ q₃) ⊛ ‵ (flft κ₄ q₄) ⊛ ‵ (flft κ₅ q₅) ⊛ ‵ (flft κ₆ q₆) ⊛ ‵ ftrue) ∷ ‵ (owns (typesAt (f.signature .params) (bound .0 .0)) (bound .0 .3) (bound .0 .4)) ∷ []) ∵ enter ! C Λ code.function _ _ $
+        qed W ((‵ (flft κ₀ q₀) ⊛ ‵ (flft κ₁ q₁) ⊛ ‵ (flft κ₂ q₂) ⊛ ‵ (flft κ₃ q₃) ⊛ ‵ (flft κ₄ q₄) ⊛ ‵ (flft κ₅ q₅) ⊛ ‵ (flft κ₆ q₆) ⊛ ‵ ftrue) ∷ ‵ (owns (ShrRef (named 0) κ₀ T ∷ MutRef (named 1) κ₁ S.the-row ∷ MutRef (named 2) κ₂ N ∷ ShrSlice (named 3) κ₃ u8 ∷ ShrSlice (named 4) κ₄ u8 ∷ MutSlice (named 5) κ₅ u8 ∷ MutSlice (named 6) κ₆ u8 ∷ []) (bound .0 .3) (bound .0 .4)) ∷ []) ∵ enter ! C Λ code.function _ _ $
         alloc1 ! (λ l₀. alloc1 ! (λ l₁. alloc1 ! (λ l₂. alloc1 ! (λ l₃. alloc1 ! (λ l₄. alloc1 ! (λ l₅. alloc1 ! (λ l₆. alloc1 ! (λ l₇. alloc1 ! (λ l₈. alloc1 ! (λ l₉. alloc1 ! (λ l₁₀. alloc1 ! (λ l₁₁. alloc1 ! (λ l₁₂. alloc1 ! (λ l₁₃. alloc1 ! (λ l₁₄. alloc0 ! $ params1 ! $
         pass1 ! (init ! 26 refl (tt, tt)) $ pass1 ! (init ! 24 refl (tt, tt)) $ pass1 ! (init ! 22 refl (tt, tt)) $
         pass1 ! (init ! 20 refl (shr-slice-lawful 𝓤 H A W (named 3) κ₃ u8 .typed x _ is-x .0)) $ pass1 ! (init ! 18 refl (shr-slice-lawful 𝓤 H A W (named 4) κ₄ u8 .typed w _ is-w .0)) $
