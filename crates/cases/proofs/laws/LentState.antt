@@ -1,4 +1,4 @@
--- A local state that is lent to a call: its machine values, and that it lies in its cell as it lies in memory, each way.
+-- A local state that is lent to a call: its machine value, and that it lies in its cell as it lies in memory, each way.
 -- Assumes nothing.
 use mathlib.Core.List.{[], _∷_, List}
 use Prim.Native.Nat.{ℕ}
@@ -16,14 +16,12 @@ use denote.Memory.{cellAt, partAt, partOf}
 use denote.Steps.{owned, facts}
 use denote.Struct.Steps.{spelt}
 use denote.Struct.Laws as LL
+use Rattle.monitor.proofs.laws.Lent.{svals}
 use Rattle.conversation.proofs.State as S
 use Rattle.conversation.proofs.State.Laws as S′
 
 abbrev pub sval : State → Val
 sval = LL.val S.the-type S′.the-laws
-
-abbrev pub svals : State → List Val
-svals = LL.vals S.the-type S′.the-laws
 
 module _ {M : Type 1} (𝓤 : URA M) (H : Heap 𝓤) (A : Atoms 𝓤) (W : Given 𝓤 H A) (h : State) (l : ℕ) where
   pub lies : Is S.the-row h (svals h) → ent 𝓤 (H .at fullShare S′.mir l 0 (sval h)) (sem 𝓤 H A (partAt S.the-row fullShare h l 0))

@@ -1,30 +1,38 @@
 -- A copy eight bytes at a time: what eight stores leave, and what a turn of the loop adds.
 -- Assumes nothing.
-use mathlib.Core.Path.{_≡_, sym, ap, ap₂, _∙_}
+use mathlib.Core.Path.{_≡_, refl, sym, ap, ap₂, _∙_}
 use mathlib.Core.List.{List, _++_}
-use Prim.Native.Nat.{ℕ, suc, _+_, _-_, _≤_, _<_}
+use Prim.Native.Nat.{ℕ, zero, suc, _+_, _-_, _≤_, _<_}
 use native.Mathlib.Nat.{add-zero}
 use native.Mathlib.Omega.{arith}
-use lib.ListN.{length, getD, set, take, drop, length-append, length-drop}
+use lib.ListN.{length, getD, set, take, drop, length-append, length-drop, length-set}
 use lib.Seq.{paste, paste-zero, paste-suc, take-append-le, drop-drop, take-take, take-add, drop-append-add, length-take-le, getD-drop, take-length}
 use Rattle.message.specs.Make.{opening}
 
-module _ (m o : List ℕ) (at : ℕ) (h : at + 8 ≤ length m) (l : at + 8 ≤ length o) where
-  -- one store more
-  stored : (j : ℕ) → j < 8 → {x : List ℕ} → x ≡ paste o at (drop at m) j → set x (at + j) (getD m (at + j) 0) ≡ paste o at (drop at m) (suc j)
-  stored j b {x} e =
-      ap₂ (λ y v. set y (at + j) v) e (sym (getD-drop at m j 0))
-      ∙ paste-suc o at (drop at m) j 0 (omega arith) (rw (length-drop at m) (omega arith))
+-- one store more
+one-more : (m o : List ℕ) (at : ℕ) → at + 8 ≤ length m → at + 8 ≤ length o → (j : ℕ) → j < 8 → {x : List ℕ} → x ≡ paste o at (drop at m) j
+    → set x (at + j) (getD m (at + j) 0) ≡ paste o at (drop at m) (suc j)
+one-more m o at h l j b e =
+    ap₂ (λ y v. set y (at + j) v) e (sym (getD-drop at m j 0))
+    ∙ paste-suc o at (drop at m) j 0 (omega arith) (rw (length-drop at m) (omega arith))
 
-  pub eight-stored : set (set (set (set (set (set (set (set o at (getD m at 0)) (at + 1) (getD m (at + 1) 0)) (at + 2) (getD m (at + 2) 0)) (at + 3) (getD m (at + 3) 0))
-      (at + 4) (getD m (at + 4) 0)) (at + 5) (getD m (at + 5) 0)) (at + 6) (getD m (at + 6) 0)) (at + 7) (getD m (at + 7) 0)
-      ≡ paste o at (drop at m) 8
-  eight-stored =
-      stored 7 (omega arith) (stored 6 (omega arith) (stored 5 (omega arith) (stored 4 (omega arith) (stored 3 (omega arith)
-      (stored 2 (omega arith) (stored 1 (omega arith) (first ∙ stored 0 (omega arith) (paste-zero o at (drop at m)))))))))
-    where
-      first : set o at (getD m at 0) ≡ set o (at + 0) (getD m (at + 0) 0)
-      first = ap (λ k. set o k (getD m k 0)) (sym (add-zero at))
+-- o after the first j of the stores
+unfoldable pub stores : List ℕ → List ℕ → ℕ → ℕ → List ℕ
+stores m o at zero = o
+stores m o at (suc zero) = set o at (getD m at 0)
+stores m o at (suc (suc j)) = set (stores m o at (suc j)) (at + suc j) (getD m (at + suc j) 0)
+
+pub stores-length : (m o : List ℕ) (at j : ℕ) → length (stores m o at j) ≡ length o
+unfolding stores
+stores-length m o at zero = refl
+stores-length m o at (suc zero) = length-set o at _
+stores-length m o at (suc (suc j)) = length-set (stores m o at (suc j)) (at + suc j) _ ∙ stores-length m o at (suc j)
+
+pub stored : (m o : List ℕ) (at : ℕ) → at + 8 ≤ length m → at + 8 ≤ length o → (j : ℕ) → j ≤ 8 → stores m o at j ≡ paste o at (drop at m) j
+unfolding stores
+stored m o at h l zero b = paste-zero o at (drop at m)
+stored m o at h l (suc zero) b = ap (λ k. set o k (getD m k 0)) (sym (add-zero at)) ∙ one-more m o at h l 0 b (paste-zero o at (drop at m))
+stored m o at h l (suc (suc j)) b = one-more m o at h l (suc j) b (stored m o at h l (suc j) (omega arith))
 
 -- the first d bytes are copied
 abbrev pub front : List ℕ → List ℕ → ℕ → List ℕ
