@@ -100,7 +100,7 @@ part-told r device host = cut (waiting (r .side) device host) (r .length)
 -- ---- the fit check
 
 -- the codes are those of an answer that the fit check promises; `before` and `after` are the lent list's numbers. Demand 3 follows
--- from the promise (`DemandThree` in fit/specs/Answer)
+-- from the promise (`DemandThree` in machine/specs/Answer)
 pub record Checked (d p : Words) (before after : List ℕ) (r : Fit) : Type 0 where
   pub answer : Answer
   pub codes : r ≡ fit-codes answer

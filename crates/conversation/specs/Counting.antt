@@ -16,8 +16,7 @@ use Rattle.conversation.specs.Step.{fresh, outcome}
 use Rattle.conversation.specs.Conversation.{Sent, Event, is-forwarded, conversation, Reply, Kept}
 use Rattle.conversation.specs.Batch.{Batch}
 use Rattle.conversation.specs.Batches.{Left, batch-of, batch-calls, Batches}
-use Rattle.conversation.specs.Counts.{Counts, setting-of, n-at, k-at, legal-setting, counted-most, counts-sound, fresh-counts, start-questions}
-use Rattle.conversation.specs.Counts.{starting, counted, counted-step, counted-batch}
+use Rattle.conversation.specs.Counts.{Counts, setting-of, n-at, k-at, legal-setting, counted-most, counts-sound, fresh-counts, start-questions, starting, counted, counted-step, counted-batch}
 
 -- ---- what is counted
 

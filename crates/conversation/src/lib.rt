@@ -1,4 +1,5 @@
-// Conversations: their state, verdicts and counts; what a step, a batch and a warning come to is defined in specs/ and proved in proofs/.
+// Conversations: their state, the verdicts and the counts, with the definitions of what a step, a batch, the due part and a warning come to, their laws, and the
+// claims over whole conversations: demand 2, early messages, batches and counts. No code: the crates `questions` and `monitor` have it.
 use table::Party;
 
 pub mod batch;
@@ -58,3 +59,6 @@ pub const SETTING: usize = 0;
 pub const CHOSEN: usize = 1;
 
 pub const TAKEN: usize = 33;
+
+// The most that n rises to.
+pub const MOST: u16 = 10000;

@@ -25,7 +25,7 @@ pub record TextOf (s : List ℕ) (p : Protocol) : Type 0 where
   pub spelt : Spelt s (print-text p)
   pub legal : Legal p
 
--- a text is read exactly when it is one of some protocol (into which table: spelling/specs/Theorems.antt, ReadExactly), and of one only
+-- a text is read exactly when it is one of some protocol (into which table: spelling/specs/TextTheorems.antt, ReadExactly), and of one only
 abbrev pub ReadOfTexts : Type 0
 ReadOfTexts = (s : List ℕ) → (reads s .question ≡ 0) ↔ ((p : Protocol) × TextOf s p)
 

@@ -1,4 +1,4 @@
-// The counts of a conversation: question 9 on them, and what forwarding raises. They are lent: nothing is copied.
+// The counts of a conversation: the setting that it is started with, and question 9 on them. They are lent: nothing is copied.
 ghost use mathlib.Core.Path.{_≡_};
 ghost use mathlib.Core.Bool.{true};
 ghost use Prim.Native.Nat.{ℕ, _≤_, _<_};
@@ -9,9 +9,6 @@ ghost use Rattle.conversation.specs.Counts.{k-at, legal-setting, counts-sound};
 ghost use Rattle.conversation.specs.inner.Keeping.{sums-to};
 use conversation::Counts;
 use table::Table;
-
-// The most that n rises to.
-const MOST: u16 = 10000;
 
 // Whether the counts are sound.
 pub fn sound(t: &Table, c: &Counts) -> bool
@@ -66,7 +63,7 @@ fn all_added(t: &Table, c: &Counts, sums: &[u32; 32]) -> bool
     while i < m {
         if t[table::SORT + i] != 0 {
             let n = c[conversation::CHOSEN + i];
-            if MOST < n {
+            if conversation::MOST < n {
                 return false;
             }
             if sums[i] != n as u32 {

@@ -40,7 +40,7 @@ FitsUnblamed =
     (D : Type 0) (d : Rules D) (p : Words) → sound-of p ≡ true → Safe d (table-rules (view p))
     → (sent : List Sent) → Keeps d p sent → Unblamed d p sent
 
--- and so of every list of answers that are steps, as those of `step` and `advance` are (`StepsCounted` in monitor/specs/Counting.antt)
+-- and so of every list of answers that are steps, as those of `step` and `advance` are (`StepsCounted` in conversation/specs/Counting.antt)
 abbrev pub RepliesUnblamed : Type 1
 RepliesUnblamed =
     (D : Type 0) (d : Rules D) (p : Words) → sound-of p ≡ true → Safe d (table-rules (view p))

@@ -1,27 +1,17 @@
 -- Over the codes of a state, a batch is the monitor's own, in codes; one that is refused leaves every lent byte.
 -- Assumes nothing.
-use mathlib.Core.Path.{_≡_, refl, sym, ap, ap₂, _∙_}
-use mathlib.Core.Bool.{Bool, true, false, cond}
-use mathlib.Core.List.{List, [], _∷_}
+use mathlib.Core.Path.{sym, ap, _∙_}
+use mathlib.Core.List.{List}
 use mathlib.Core.Option.{some}
 use Prim.Native.Nat.{ℕ}
 use lib.ListN.{getD}
-use lib.Dec.{eqb}
-use borrow.Author.Tests.{ne-eqb, eq-eqb, eqb-true}
-use Rattle.table.specs.Lists.{first-no}
-use Rattle.table.specs.View.{Words}
-use Rattle.table.proofs.laws.Lists.{both, join, left-fails}
-use Rattle.conversation.specs.declared.State.{State}
-use Rattle.conversation.specs.declared.batch.Batched.{Batched}
 use Rattle.conversation.specs.Step.{refused}
-use Rattle.conversation.specs.Batch.{Batch, batch-questions, begun, last-of, batched}
-use Rattle.conversation.specs.Counts.{Counts, counts-sound, counted-batch}
-use Rattle.conversation.proofs.claims.StepsCounted.{batch-away}
-use Rattle.codes.specs.declared.steps.Verdict.{Verdict}
+use Rattle.conversation.specs.Batch.{Batch, begun}
+use Rattle.conversation.specs.Counts.{Counts, counted-batch}
 use Rattle.codes.specs.declared.batches.Batch as C
-use Rattle.codes.specs.Codes.{standing-code, standing-of, state-of, state-in, state-bytes, last-codes}
-use Rattle.codes.specs.Calls.{batch-codes, stand-for, bytes-for, batch-crossing, batching-codes, CodesBatch, BatchRefused}
-use Rattle.codes.proofs.laws.Codes.{standing-same, state-same}
+use Rattle.codes.specs.Codes.{state-in}
+use Rattle.codes.specs.Calls.{batch-codes, batch-crossing, batching-codes, CodesBatch, BatchRefused}
+use Rattle.codes.proofs.laws.Codes.{state-same}
 use Rattle.codes.proofs.laws.BatchingCodes.{bytes-left, kept-bytes, nothing-passed, own-bytes}
 
 pub codes-batch : CodesBatch

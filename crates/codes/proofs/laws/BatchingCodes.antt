@@ -12,16 +12,14 @@ use Rattle.table.specs.Lists.{first-no}
 use Rattle.table.specs.View.{Words}
 use Rattle.table.proofs.laws.Lists.{both, join, left-fails}
 use Rattle.conversation.specs.declared.State.{State}
-use Rattle.conversation.specs.declared.batch.Batched.{Batched}
 use Rattle.conversation.specs.Step.{refused}
-use Rattle.conversation.specs.Batch.{Batch, batch-questions, begun, last-of, batched}
+use Rattle.conversation.specs.Batch.{batch-questions, begun}
 use Rattle.conversation.specs.Counts.{Counts, counts-sound, counted-batch}
 use Rattle.conversation.proofs.claims.StepsCounted.{batch-away}
-use Rattle.codes.specs.declared.steps.Verdict.{Verdict}
 use Rattle.codes.specs.declared.batches.Batch as C
-use Rattle.codes.specs.Codes.{standing-code, standing-of, state-of, state-in, state-bytes, last-codes}
-use Rattle.codes.specs.Calls.{batch-codes, stand-for, bytes-for, batch-crossing, batching-codes, CodesBatch, BatchRefused}
-use Rattle.codes.proofs.laws.Codes.{standing-same, state-same}
+use Rattle.codes.specs.Codes.{standing-code, standing-of, state-of, state-bytes}
+use Rattle.codes.specs.Calls.{stand-for, bytes-for}
+use Rattle.codes.proofs.laws.Codes.{standing-same}
 
 -- ---- whether two bytes stand for a state
 

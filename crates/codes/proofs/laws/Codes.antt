@@ -16,8 +16,8 @@ use Rattle.conversation.specs.declared.Verdict.the-variants.{Blamed}
 use Rattle.conversation.specs.Step.{told, Outcome, refusing, blaming, forwarding, stepping}
 use Rattle.conversation.specs.Counts.{Counts, counts-sound, counted, counted-step}
 use Rattle.conversation.proofs.laws.Step.{Way, refuses, forwards, blames, way}
-use Rattle.codes.specs.Codes.{code-side, party-code, standing-code, standing-of, state-of, state-bytes, verdict-codes}
-use Rattle.codes.specs.Calls.{stepping-as, bytes-after, crossing, step-codes, CodesStep}
+use Rattle.codes.specs.Codes.{code-side, party-code, standing-code, standing-of, state-of, state-bytes}
+use Rattle.codes.specs.Calls.{bytes-after}
 
 pub party-same : (side : Party) → code-side (party-code side) ≡ some side
 party-same Device = refl

@@ -17,15 +17,13 @@ use Rattle.table.proofs.laws.Lists.{never}
 use Rattle.conversation.specs.declared.State.{State}
 use Rattle.conversation.specs.Step.{Told, is-running, stepping}
 use Rattle.conversation.specs.Due.{of-side, first-length}
-use Rattle.conversation.specs.Batch.{Lane, taken, taking, Batch, latest, device-took, host-took, turn-of, one-turn, go-on, turns}
-use Rattle.conversation.specs.Batch.{batch-questions, begun, batching}
+use Rattle.conversation.specs.Batch.{Lane, taken, taking, Batch, latest, device-took, host-took, turn-of, one-turn, go-on, turns, batch-questions, begun, batching}
 use Rattle.conversation.specs.Batches.{Left, onto, left-by, arrived, BatchInTwo}
 use Rattle.conversation.specs.Conversation.{is-forwarded}
 use Rattle.conversation.specs.inner.Keeping.{Within, is-last-forwarded}
 use Rattle.conversation.proofs.laws.Step.{zero-or, none-stops}
 use Rattle.conversation.proofs.laws.Due.{first-within, first-cut, first-framed, first-found}
-use Rattle.conversation.proofs.laws.Batch.{sound-parts, takes-none, takes-one, turn-is, turn-by, stays, go-on-by, on-again, on-over}
-use Rattle.conversation.proofs.laws.Batch.{begun-within, let-in}
+use Rattle.conversation.proofs.laws.Batch.{sound-parts, takes-none, takes-one, turn-is, turn-by, stays, go-on-by, on-again, on-over, begun-within, let-in}
 use Rattle.conversation.proofs.laws.Turns.{turns-within, Over, turn-over, stuck, more-turns}
 use Rattle.conversation.proofs.laws.Onto.{goes-on-as}
 

@@ -9,8 +9,7 @@ use Rattle.conversation.specs.declared.State.{State}
 use Rattle.conversation.specs.Step.{fresh}
 use Rattle.conversation.specs.Conversation.{Sent, Event, event, played, conversation}
 use Rattle.conversation.specs.Batch.{Batch, batch-questions, begun}
-use Rattle.conversation.specs.Batches.{Left, Singly, none-due, stops, goes-on, state-after, summed}
-use Rattle.conversation.specs.Batches.{Batches, no-more, taken-in, turned-away, batch-calls, BatchesWatched}
+use Rattle.conversation.specs.Batches.{Left, Singly, none-due, stops, goes-on, state-after, summed, Batches, no-more, taken-in, turned-away, batch-calls, BatchesWatched}
 use Rattle.conversation.proofs.laws.Step.{zero-or}
 use Rattle.conversation.proofs.laws.Conversation.{cons-eq}
 use Rattle.conversation.proofs.claims.DemandTwo.{demand-two}

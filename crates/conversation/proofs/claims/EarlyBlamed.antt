@@ -23,14 +23,12 @@ use Rattle.conversation.specs.Step.{may-speak, step-questions, blamed, O
 use Rattle.conversation.specs.Due.{of-side, awaited}
 use Rattle.conversation.specs.Conversation.{Sent, Event, event, said-by, Judgeable, Early, EarlyBlamed, NoneEarly}
 use Rattle.conversation.specs.Batch.{Batch}
-use Rattle.conversation.specs.Batches.{Left, Single, Singly, none-due, stops, goes-on, Batches, no-more, taken-in, turned-away}
-use Rattle.conversation.specs.Batches.{InTurn, DueInTurn, BatchesInTurn}
+use Rattle.conversation.specs.Batches.{Left, Single, Singly, none-due, stops, goes-on, Batches, no-more, taken-in, turned-away, InTurn, DueInTurn, BatchesInTurn}
 use Rattle.conversation.proofs.laws.Step.{formed-then, asked-then, edition-is, said-in-turn, said-early, Way, refuses, forwards, blames, way}
 use Rattle.conversation.proofs.laws.Due.{open-here, speaks-here}
 use Rattle.conversation.proofs.claims.DueFound.{due-heard}
-use Rattle.conversation.proofs.laws.Conversation.{heard-where, refused-forwarded, refused-blamed, forwarded-blamed, refused-eq, blamed-eq}
+use Rattle.conversation.proofs.laws.Conversation.{heard-where, refused-forwarded, refused-blamed, forwarded-blamed, refused-eq, blamed-eq, cons-eq, nil-cons}
 use Rattle.conversation.proofs.claims.DemandTwo.{demand-two}
-use Rattle.conversation.proofs.laws.Conversation.{cons-eq, nil-cons}
 
 -- ---- the judgement against branches has the reasons 1, 2 and 3
 

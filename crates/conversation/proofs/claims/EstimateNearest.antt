@@ -1,30 +1,22 @@
 -- The estimate is the nearest whole, no number of the comparison is too large, every branch has a sender, and document 02's example holds.
 -- Assumes nothing.
 use mathlib.Core.Path.{_≡_, refl, sym, ap, subst, _∙_}
-use mathlib.Core.Bool.{Bool, true, false, _&&_, cond}
 use mathlib.Core.Logic.{⊎-elim}
-use mathlib.Core.Option.{Option, some}
+use mathlib.Core.Option.{some}
 use Prim.Native.Nat.{ℕ, zero, suc, _+_, _-_, _*_, _/_, _≤_, _<_}
 use native.Mathlib.Nat.{le-refl, mul-le-mul, div-mul-le-self, lt-div-mul-add, mul-assoc, mul-comm}
 use native.Mathlib.Omega.{arith}
-use lib.Dec.{leb, ltb}
-use borrow.Author.Tests.{leb-true, leb-false, ltb-true, lt-ltb, le-ltb, eq-eqb, ne-eqb}
-use Rattle.table.specs.Lists.{first-no}
-use Rattle.table.specs.Table.{shares-sum, speaker}
-use Rattle.table.specs.View.{Words, states-of, branches-of, owner-at, share-at, sort-at, sort-of, sound-of, sound-at}
+use lib.Dec.{leb}
+use borrow.Author.Tests.{leb-true, leb-false}
+use Rattle.table.specs.Table.{speaker}
+use Rattle.table.specs.View.{owner-at, share-at, sort-at, sort-of}
 use Rattle.table.specs.declared.Party.{Party}
 use Rattle.table.specs.declared.Party.the-variants.{Device, Host}
-use Rattle.table.proofs.laws.Lists.{both, decided}
-use Rattle.table.proofs.laws.View.{sound-facts, shares-sound, sort-of-is}
-use Rattle.table.proofs.laws.SharesRight.{share-most}
+use Rattle.table.proofs.laws.Lists.{decided}
+use Rattle.table.proofs.laws.View.{sort-of-is}
 use Rattle.message.proofs.laws.Judge.{none-some, some-eq}
-use Rattle.conversation.specs.declared.State.{State}
-use Rattle.conversation.specs.Counts.{Counts, setting-of, n-at, k-at, counts-sound, legal-setting}
-use Rattle.conversation.specs.Warning.{difference, square, warns, rounded, estimate, refused, tells, warning-questions, telling, warning}
-use Rattle.conversation.specs.Warning.{EstimateNearest, WithinBounds, SenderThere, WarningExamples}
-use Rattle.conversation.proofs.laws.Step.{two-yes}
-use Rattle.conversation.proofs.laws.Batch.{sound-parts}
-use Rattle.conversation.proofs.laws.Counts.{counts-sums, Few, counts-few}
+use Rattle.conversation.specs.Counts.{setting-of, n-at, k-at}
+use Rattle.conversation.specs.Warning.{difference, square, warns, rounded, estimate, EstimateNearest, WithinBounds, SenderThere, WarningExamples}
 use Rattle.conversation.proofs.laws.Warning.{edge-most, far-most, told}
 
 pub estimate-nearest : EstimateNearest

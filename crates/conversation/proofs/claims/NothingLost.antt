@@ -22,8 +22,7 @@ use Rattle.message.proofs.laws.Message.{well-formed-exactly}
 use Rattle.conversation.specs.declared.State.{State}
 use Rattle.conversation.specs.Step.{is-running, step-questions, Told, refused, Outcome, refusing, blaming, forwarding, stepping}
 use Rattle.conversation.specs.Due.{first-length}
-use Rattle.conversation.specs.Batch.{Lane, used-by, written-by, Taken, taken, taking, Batch, device-took, host-took, one-turn}
-use Rattle.conversation.specs.Batch.{turns, batch-questions, begun, batching}
+use Rattle.conversation.specs.Batch.{Lane, used-by, written-by, Taken, taken, taking, Batch, device-took, host-took, one-turn, turns, batch-questions, begun, batching}
 use Rattle.conversation.specs.Batches.{Left, Messages, Accounted, NothingLostOf, NothingLost}
 use Rattle.conversation.specs.Conversation.{is-forwarded}
 use Rattle.conversation.specs.inner.Keeping.{is-last-forwarded}

@@ -15,8 +15,7 @@ use Rattle.conversation.specs.Conversation.{Sent, Event, event, played, 
 use Rattle.conversation.specs.Conversation as C
 use Rattle.conversation.specs.Batch.{Batch, batch-questions, begun}
 use Rattle.conversation.specs.Batches.{Left, Singly, summed, Batches, no-more, taken-in, turned-away}
-use Rattle.conversation.specs.Counts.{Counts, counts-sound, legal-setting, fresh-counts, start-questions, starting, counted, counted-step}
-use Rattle.conversation.specs.Counts.{counted-batch}
+use Rattle.conversation.specs.Counts.{Counts, counts-sound, legal-setting, fresh-counts, start-questions, starting, counted, counted-step, counted-batch}
 use Rattle.conversation.specs.Counting.{Tallied, counts-after, KeptCounts, one-more, StepsCounted, counted-calls, BatchesCounted, NoneStarted}
 use Rattle.conversation.specs.Counting as N
 use Rattle.conversation.proofs.laws.Step.{two-yes}

@@ -25,18 +25,14 @@ use Rattle.message.specs.Judge.{judge}
 use Rattle.message.specs.Rules.{table-rules}
 use Rattle.message.specs.Make.{opening}
 use Rattle.conversation.specs.declared.State.{State}
-use Rattle.conversation.specs.Step.{is-running, of-state, step-questions, Told, refused, blamed, forwarded, Outcome, refusing, blaming}
-use Rattle.conversation.specs.Step.{forwarding, stepping}
+use Rattle.conversation.specs.Step.{is-running, of-state, step-questions, Told, refused, blamed, forwarded, Outcome, refusing, blaming, forwarding, stepping}
 use Rattle.conversation.specs.Due.{Awaited, of-side, awaited, first-length}
 use Rattle.conversation.specs.Due as Due
-use Rattle.conversation.specs.Batch.{Lane, used-by, written-by, Taken, taken, taking, Batch, device-took, host-took, turn-of, one-turn}
-use Rattle.conversation.specs.Batch.{go-on, turns, batch-questions, begun, batching}
+use Rattle.conversation.specs.Batch.{Lane, used-by, written-by, Taken, taken, taking, Batch, device-took, host-took, turn-of, one-turn, go-on, turns, batch-questions, begun, batching}
 use Rattle.conversation.specs.Conversation.{is-forwarded}
 use Rattle.conversation.specs.inner.Keeping.{Heard, LaneIn, Within, is-last-forwarded}
-use Rattle.conversation.proofs.laws.Step.{zero-or, entered, at-end, at-choice, opened, Ready, ready, asked-then}
-use Rattle.conversation.proofs.laws.Step.{said-in-turn, target-of, said-here, refused-step, Way, refuses, forwards, blames, way}
-use Rattle.conversation.proofs.laws.Due.{refused-turn, device-awaited, host-awaited, first-within, first-cut, first-framed}
-use Rattle.conversation.proofs.laws.Due.{open-here, speaks-here, framed-heard}
+use Rattle.conversation.proofs.laws.Step.{zero-or, entered, at-end, at-choice, opened, Ready, ready, asked-then, said-in-turn, target-of, said-here, refused-step, Way, refuses, forwards, blames, way}
+use Rattle.conversation.proofs.laws.Due.{refused-turn, device-awaited, host-awaited, first-within, first-cut, first-framed, open-here, speaks-here, framed-heard}
 use Rattle.conversation.proofs.laws.Conversation.{said-leads, next-state}
 
 -- ---- a sound table and one of its states

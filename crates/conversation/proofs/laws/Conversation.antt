@@ -11,7 +11,7 @@ use lib.ListN.{length}
 use lib.Dec.{ltb, eqb}
 use borrow.Author.Tests.{lt-ltb}
 use Rattle.table.specs.Lists.{upto, first-no}
-use Rattle.table.specs.View.{Words, view, branch-at, sound-of, sound-at}
+use Rattle.table.specs.View.{Words, view, branch-at, sound-of, sound-at, states-of, branches-of}
 use Rattle.table.proofs.laws.Lists.{never, both, join}
 use Rattle.table.proofs.laws.View.{Facts, view-sound, sound-facts}
 use Rattle.message.specs.Message.{Message}
@@ -23,15 +23,11 @@ use Rattle.message.proofs.claims.SelectedExactly.{selected-exactly}
 use Rattle.table.specs.declared.Party.{Party}
 use Rattle.table.specs.declared.Party.the-variants.{Device, Host}
 use Rattle.conversation.specs.declared.State.{State}
-use Rattle.conversation.specs.Step.{may-speak, fresh, is-running, blame, of-state, of-message, step-questions, Told, refused, blamed, forwarded, Outcome}
-use Rattle.conversation.specs.Step.{refusing, blaming, forwarding, stepping, outcome}
+use Rattle.conversation.specs.Step.{may-speak, fresh, is-running, blame, of-state, of-message, step-questions, Told, refused, blamed, forwarded, Outcome, refusing, blaming, forwarding, stepping, outcome}
 use Rattle.table.specs.Table.{speaker, is-party}
-use Rattle.conversation.specs.Conversation.{Sent, Event, event, played, conversation, said-by, is-forwarded, forwarded-ones, blamed-else}
-use Rattle.conversation.specs.Conversation.{blamed-first, standing-by, Stands, nobody, Judgeable, refusal-of, Handled, Met, DemandTwo}
-use Rattle.conversation.specs.Conversation.{Reply, Kept, one-more, RepliesKept}
+use Rattle.conversation.specs.Conversation.{Sent, Event, event, played, conversation, said-by, is-forwarded, forwarded-ones, blamed-else, blamed-first, standing-by, Stands, nobody, Judgeable, refusal-of, Handled, Met, Reply, Kept, one-more}
 use Rattle.conversation.proofs.laws.Step.{all-well, ready, target-of, Way, refuses, forwards, blames, way}
 use Rattle.table.specs.Table as T
-use Rattle.table.specs.View.{states-of, branches-of}
 
 -- ---- what verdicts and type say, of two lists in a row
 

@@ -27,8 +27,7 @@ use Rattle.message.proofs.claims.SelectedExactly.{selected-exactly}
 use Rattle.message.proofs.laws.Making.{branch-at-is}
 use Rattle.conversation.specs.declared.State.{State}
 use Rattle.conversation.specs.Step.{fresh}
-use Rattle.conversation.specs.Counts.{Counts, setting-of, n-at, k-at, legal-setting, counted-most, adds-up, counts-sound, fresh-counts}
-use Rattle.conversation.specs.Counts.{start-questions, starting, raised, raised-by, raised-at}
+use Rattle.conversation.specs.Counts.{Counts, setting-of, n-at, k-at, legal-setting, counted-most, adds-up, counts-sound, fresh-counts, start-questions, starting, raised, raised-by, raised-at}
 use Rattle.conversation.specs.inner.Keeping.{Rising, Follows, sums-to}
 use Rattle.conversation.proofs.laws.Step.{zero-or}
 

@@ -16,8 +16,7 @@ use Rattle.conversation.specs.declared.State.{State}
 use Rattle.conversation.specs.Step.{Told, refused, blamed, forwarded, Outcome, stepping}
 use Rattle.conversation.specs.Due.{Awaited, of-side, awaited, first-length}
 use Rattle.conversation.specs.Due as Due
-use Rattle.conversation.specs.Batch.{Lane, used-by, written-by, Taken, taken, taking, Batch, latest, device-took, host-took, turn-of}
-use Rattle.conversation.specs.Batch.{one-turn, go-on, turns, begun}
+use Rattle.conversation.specs.Batch.{Lane, used-by, written-by, Taken, taken, taking, Batch, latest, device-took, host-took, turn-of, one-turn, go-on, turns, begun}
 use Rattle.conversation.specs.Batches.{onto-lane, onto}
 use Rattle.conversation.specs.Counts.{Counts, raised-at, first-left, awaited-message, turn-message, count-on, counted-turns}
 use Rattle.conversation.proofs.laws.Batch.{go-on-by, on-again, on-over}

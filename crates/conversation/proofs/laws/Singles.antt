@@ -22,16 +22,14 @@ use Rattle.conversation.specs.Step.{Told, refused, blamed, forwarded, Ou
 use Rattle.conversation.specs.Due.{Awaited, of-side, awaited, first-length, due-at, due}
 use Rattle.conversation.specs.Due as Due
 use Rattle.conversation.specs.Conversation.{Sent, Event, event, is-refused, is-forwarded}
-use Rattle.conversation.specs.Batch.{Lane, used-by, written-by, taken, taking, Batch, latest, device-took, host-took}
-use Rattle.conversation.specs.Batch.{turn-of, one-turn, go-on, turns, begun}
-use Rattle.conversation.specs.Batches.{Left, output-for, left-after, HandsOut, Single, Singly, none-due, stops, goes-on}
-use Rattle.conversation.specs.Batches.{used-on, passed-from, lane-after, state-after, last-answer, summed, onto-lane, onto, left-by, BatchSingly}
+use Rattle.conversation.specs.Batch.{Lane, used-by, written-by, taken, taking, Batch, latest, device-took, host-took, turn-of, one-turn, go-on, turns, begun}
+use Rattle.conversation.specs.Batches.{Left, output-for, left-after, HandsOut, Single, Singly, none-due, stops, goes-on, used-on, passed-from, lane-after, state-after, last-answer, summed, onto-lane, onto, left-by}
 use Rattle.conversation.specs.inner.Keeping.{is-last-forwarded}
 use Rattle.conversation.specs.Counts.{Counts, raised-at, counted, first-left, awaited-message, turn-message, count-on, counted-turns}
 use Rattle.conversation.specs.Counting.{counts-after}
 use Rattle.conversation.proofs.laws.Step.{turn-its, zero-or, Way, refuses, forwards, blames, way}
 use Rattle.conversation.proofs.laws.Due.{first-within, first-cut}
-use Rattle.conversation.proofs.laws.Batch.{takes-none, takes-one, turn-is, turn-by, on-over, let-in}
+use Rattle.conversation.proofs.laws.Batch.{takes-none, takes-one, turn-is, turn-by, on-over}
 use Rattle.conversation.proofs.laws.Onto.{goes-on-as, counts-go-on-as}
 use denote.Ref.{RefT}
 

@@ -11,8 +11,7 @@ use lib.ListN.{length}
 use lib.Dec.{leb, ltb, eqb}
 use borrow.Author.Tests.{ne-eqb, lt-ltb, le-ltb, ltb-true, le-leb, lt-leb, leb-true}
 use Rattle.table.specs.Table.{Sort, is-choice, sort, speaker, is-party}
-use Rattle.table.specs.View.{view, sort-of, sound-of, sound-at}
-use Rattle.table.specs.View.{Words, states-of, sort-at, edition-of}
+use Rattle.table.specs.View.{view, sort-of, sound-of, sound-at, Words, states-of, sort-at, edition-of}
 use Rattle.table.proofs.laws.Lists.{both, join, right-fails, decided}
 use Rattle.table.proofs.laws.View.{choice-code, code-choice, Facts, sort-of-is, sound-facts}
 use Rattle.message.specs.Message.{read, whole, legal-values, exact, legal-texts, refusal}
@@ -22,8 +21,7 @@ use Rattle.message.specs.Rules.{Rules, table-rules, Said, turn, judge-said}
 use Rattle.table.specs.declared.Party.{Party}
 use Rattle.table.specs.declared.Party.the-variants.{Device, Host}
 use Rattle.conversation.specs.declared.State.{State}
-use Rattle.conversation.specs.Step.{may-speak, is-running, of-state, of-message, step-questions, Outcome, refusing, blaming, forwarding, judging}
-use Rattle.conversation.specs.Step.{stepping}
+use Rattle.conversation.specs.Step.{may-speak, is-running, of-state, of-message, step-questions, Outcome, refusing, blaming, forwarding, judging, stepping}
 use Rattle.conversation.specs.Batch.{batch-questions}
 use Rattle.table.specs.Lists.{first-no}
 

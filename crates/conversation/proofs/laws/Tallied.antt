@@ -19,11 +19,9 @@ use Rattle.message.specs.Message.{read}
 use Rattle.message.specs.Judge.{selected}
 use Rattle.conversation.specs.Step.{Told, refused, blamed, forwarded}
 use Rattle.conversation.specs.Conversation.{Event, is-forwarded}
-use Rattle.conversation.specs.Counts.{Counts, setting-of, n-at, k-at, counted-most, legal-setting, counts-sound, fresh-counts, raised, raised-by}
-use Rattle.conversation.specs.Counts.{raised-at, counted}
-use Rattle.conversation.specs.Counting.{picked, picks, times, Tallied, counts-after, CountsTally}
-use Rattle.conversation.proofs.laws.Counts.{fresh-n, fresh-k, fresh-length, fresh-sound, raised-full, raised-length, raised-setting}
-use Rattle.conversation.proofs.laws.Counts.{raised-n-other, raised-k-other, raised-n, raised-k, raised-sound, chosen-branch}
+use Rattle.conversation.specs.Counts.{Counts, setting-of, n-at, k-at, counted-most, legal-setting, counts-sound, fresh-counts, raised, raised-by, raised-at, counted}
+use Rattle.conversation.specs.Counting.{picked, picks, times, Tallied, counts-after}
+use Rattle.conversation.proofs.laws.Counts.{fresh-n, fresh-k, fresh-length, fresh-sound, raised-full, raised-length, raised-setting, raised-n-other, raised-k-other, raised-n, raised-k, raised-sound, chosen-branch}
 
 -- ---- the first m of a list
 

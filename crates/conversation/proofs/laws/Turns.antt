@@ -15,13 +15,11 @@ use Rattle.table.specs.declared.Party.{Party}
 use Rattle.table.specs.declared.Party.the-variants.{Device, Host}
 use Rattle.table.proofs.laws.Lists.{never}
 use Rattle.conversation.specs.declared.State.{State}
-use Rattle.conversation.specs.Step.{is-running, blame, of-state, Told, refused, Outcome, refusing, blaming, forwarding}
-use Rattle.conversation.specs.Step.{stepping}
+use Rattle.conversation.specs.Step.{is-running, blame, of-state, Told, refused, Outcome, refusing, blaming, forwarding, stepping}
 use Rattle.conversation.specs.Due.{of-side, awaited, first-length}
 use Rattle.conversation.specs.Due as Due
 use Rattle.conversation.specs.Conversation.{standing-by, nobody, is-forwarded}
-use Rattle.conversation.specs.Batch.{Lane, used-by, written-by, Taken, taken, taking, Batch, latest, device-took, host-took, turn-of}
-use Rattle.conversation.specs.Batch.{one-turn, turns, batch-questions, begun, batching}
+use Rattle.conversation.specs.Batch.{Lane, used-by, written-by, Taken, taken, taking, Batch, latest, device-took, host-took, turn-of, one-turn, turns, batch-questions, begun, batching}
 use Rattle.conversation.specs.inner.Keeping.{Within, is-last-forwarded}
 use Rattle.conversation.proofs.laws.Step.{zero-or, Way, refuses, forwards, blames, way}
 use Rattle.conversation.proofs.laws.Due.{refused-turn}

@@ -4,8 +4,7 @@ use Rattle.utf8.specs.Utf8.{within, utf8-char, some-row, octets, is-utf8}
 use Rattle.table.specs.Ascii.{ascii}
 use Rattle.table.specs.Lists.{first-no, every}
 use Rattle.table.specs.Table.{within-kind, upper, letter-or-digit, label-rest, legal-label}
-use Rattle.message.specs.Message.{number-of, first-number, pair-up, count-of, values-of, text-bytes, announced, cut-up, texts-of}
-use Rattle.message.specs.Message.{whole, legal-value, legal-values, exact, legal-texts, refusal}
+use Rattle.message.specs.Message.{number-of, first-number, pair-up, count-of, values-of, text-bytes, announced, cut-up, texts-of, whole, legal-value, legal-values, exact, legal-texts, refusal}
 use Rattle.grammar.proofs.laws.Reads.{read-sound}
 use Rattle.conversation.proofs.claims.EstimateNearest.{warning-examples}
 use Rattle.examples.specs.Requests.{NamesAfterRec, SharesRead, shared-text, TextsAsked, Q, EditionsRead, EarlyOk}

@@ -12,19 +12,16 @@ use lib.Dec.{eqb}
 use borrow.Author.Tests.{eqb-true, eq-eqb, le-leb, ltb-true}
 use Rattle.bits.specs.Digits.{sum}
 use Rattle.table.specs.Lists.{every, matched, same, first-no}
-use Rattle.table.specs.Table.{sort-code, same-sort, sort, within-kind, upper, letter-or-digit, label-rest}
-use Rattle.table.specs.Table.{legal-label}
+use Rattle.table.specs.Table.{sort-code, same-sort, sort, within-kind, upper, letter-or-digit, label-rest, legal-label}
 use Rattle.table.specs.View.{Words, states-of, view, sound-of}
 use Rattle.table.proofs.laws.Lists.{never}
-use Rattle.message.specs.Message.{number-of, first-number, pair-up, count-of, values-of, read, text-bytes, announced, whole, legal-value}
-use Rattle.message.specs.Message.{cut-up, texts-of, legal-values, exact, legal-texts, well-formed}
+use Rattle.message.specs.Message.{number-of, first-number, pair-up, count-of, values-of, read, text-bytes, announced, whole, legal-value, cut-up, texts-of, legal-values, exact, legal-texts, well-formed}
 use Rattle.utf8.specs.Utf8.{octets, is-utf8}
 use Rattle.message.specs.Judge.{same-kind, in-range, holds, names, carries, goes, allows}
 use Rattle.message.specs.Make.{opening}
 use Rattle.message.specs.Rules.{Rules, table-rules}
 use Rattle.table.specs.declared.Party.the-variants.{Device}
-use Rattle.machine.specs.Machine.{jammed, Move, from-device, by-side, effect, arrived, fresh-machine, while-running, does, after, move, moves}
-use Rattle.machine.specs.Machine.{play, run, is-forward, all-forwarded, bad, Fewest}
+use Rattle.machine.specs.Machine.{jammed, Move, from-device, by-side, effect, arrived, fresh-machine, while-running, does, after, move, moves, play, run, is-forward, all-forwarded, bad, Fewest}
 use Rattle.machine.specs.Fit.{both-are, right, Reachable, Fits, pairs, Count, shown, of-speakers, shown-moves, but-last, last-count, field-named}
 use Rattle.machine.specs.Answer.{Answer, refused, fits, fails, fit-questions, Answered}
 use Rattle.machine.proofs.laws.Safe.{fits-safe}

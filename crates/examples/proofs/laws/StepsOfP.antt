@@ -13,8 +13,7 @@ use Rattle.table.specs.Table.{sends, sort, speaker, is-party, within-kind, uppe
 use Rattle.table.specs.View.{Words, states-of, view, sound-of, sound-at}
 use Rattle.table.proofs.laws.Lists.{join}
 use Rattle.utf8.specs.Utf8.{octets, is-utf8}
-use Rattle.message.specs.Message.{number-of, first-number, pair-up, count-of, values-of, read, text-bytes, announced, whole, legal-value}
-use Rattle.message.specs.Message.{cut-up, texts-of, legal-values, exact, legal-texts, refusal}
+use Rattle.message.specs.Message.{number-of, first-number, pair-up, count-of, values-of, read, text-bytes, announced, whole, legal-value, cut-up, texts-of, legal-values, exact, legal-texts, refusal}
 use Rattle.message.specs.Judge.{same-kind, in-range, names, Judgement, allowed, forbidden, first-outside, by-range, by-fields, judge-among, judge}
 use Rattle.message.specs.Make.{opening}
 use Rattle.message.specs.Rules.{table-rules, judge-said}

@@ -11,8 +11,7 @@ use Rattle.grammar.specs.Token.{packed, word-of}
 use Rattle.grammar.specs.Number.{value-of, signed-of, offset, in-kind, in-count}
 use Rattle.grammar.specs.Building.{set-edition, add-state, add-branch, add-share, label-used, choice-right, denied}
 use Rattle.grammar.specs.Filled.{filled, refused}
-use Rattle.grammar.specs.Reading.{meaning, unguarded, closed, token-formed, grammar-allows, edition-known, name-bound, guarded, ranged, share-ranged, new-label, within, shares-add, sign-of, choice-sort}
-use Rattle.grammar.specs.Reading.{kind-of, target, stored, began, taken, run-tokens, built, reads, questions}
+use Rattle.grammar.specs.Reading.{meaning, unguarded, closed, token-formed, grammar-allows, edition-known, name-bound, guarded, ranged, share-ranged, new-label, within, shares-add, sign-of, choice-sort, kind-of, target, stored, began, taken, run-tokens, built, reads, questions}
 use Rattle.table.specs.Ascii.{ascii}
 use Rattle.grammar.proofs.laws.Reads.{read-sound}
 use Rattle.examples.specs.Twelve.{P, E, P-text, Reads, RefusedAt}

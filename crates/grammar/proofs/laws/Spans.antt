@@ -9,8 +9,7 @@ use lib.ListN.{length, getD}
 use borrow.Author.Tests.{leb-false}
 use Rattle.table.specs.Table.{letter-or-digit}
 use Rattle.grammar.specs.Token.{token}
-use Rattle.grammar.specs.inner.Scanner.{is-space, is-digit, is-dot, class-of, run-end, word-token, name-token, number-token, dots-token, begin-at, token-at}
-use Rattle.grammar.specs.inner.Scanner.{Spans}
+use Rattle.grammar.specs.inner.Scanner.{is-space, is-digit, is-dot, class-of, run-end, word-token, name-token, number-token, dots-token, begin-at, token-at, Spans}
 use Rattle.grammar.specs.declared.token.Class.{Class}
 use Rattle.grammar.specs.declared.token.Class.the-variants.{Space, Lower, Upper, Digit, Dot, Minus, Sign, Other}
 use Rattle.grammar.specs.declared.token.Token.{Token}

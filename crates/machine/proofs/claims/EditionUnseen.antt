@@ -15,9 +15,7 @@ use Rattle.table.specs.declared.Party.the-variants.{Device, Host}
 use Rattle.table.proofs.laws.Lists.{never, both, join, decided}
 use Rattle.message.specs.Message.{Message, read, well-formed}
 use Rattle.message.specs.Rules.{Rules, under}
-use Rattle.machine.specs.Machine.{Standing, running, device-blamed, host-blamed, jammed, Machine, Move, Effect, nothing, forward, halt}
-use Rattle.machine.specs.Machine.{from-host, host-early, by-side, effect, arrived, fresh-machine, after, while-running, does, move, moves, play, run}
-use Rattle.machine.specs.Machine.{is-forward, all-forwarded, bad, Safe, Unsafe, Fewest, Shortest, DeviceEditionUnseen, EditionUnseen}
+use Rattle.machine.specs.Machine.{Standing, running, device-blamed, host-blamed, jammed, Machine, Move, Effect, nothing, forward, halt, from-host, host-early, by-side, effect, arrived, fresh-machine, after, while-running, does, move, moves, play, run, is-forward, all-forwarded, bad, Safe, Unsafe, Fewest, Shortest, DeviceEditionUnseen, EditionUnseen}
 use Rattle.machine.specs.Fit.{but-last}
 use Rattle.machine.proofs.laws.Does.{Early, unmoved, blamed, early}
 

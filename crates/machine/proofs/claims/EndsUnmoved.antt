@@ -1,20 +1,11 @@
 -- At an end a host move changes nothing.
 -- Assumes nothing.
-use mathlib.Core.Path.{_≡_, refl, sym, ap, ap₂, _∙_}
+use mathlib.Core.Path.{_≡_, ap}
 use mathlib.Core.Bool.{Bool, true, false, _&&_, cond}
-use mathlib.Core.Option.{Option, none, some}
-use Prim.Native.Nat.{ℕ}
 use lib.Dec.{eqb}
-use Rattle.table.specs.Table.{Sort, sends, receives, sort-code, same-sort, Table, sort}
-use Rattle.table.specs.declared.Party.{Party}
-use Rattle.table.specs.declared.Party.the-variants.{Device, Host}
-use Rattle.table.proofs.laws.SameSort.{same-sort-refl, same-sort-eq}
-use Rattle.message.specs.Message.{read, well-formed}
-use Rattle.message.specs.Judge.{allows}
-use Rattle.message.specs.Rules.{table-rules}
-use Rattle.machine.specs.Machine.{Standing, running, device-blamed, host-blamed, jammed, Move, Effect, nothing, forward, halt}
-use Rattle.machine.specs.Machine.{from-device, from-host, host-early, by-side, effect, arrived, after, while-running, does, move, EndsUnmoved}
-use Rattle.machine.specs.inner.Walks.{does-at}
+use Rattle.table.specs.Table.{sort-code, same-sort}
+use Rattle.message.specs.Message.{well-formed}
+use Rattle.machine.specs.Machine.{host-blamed, nothing, halt, host-early, by-side, effect, after, while-running, does, move, EndsUnmoved}
 use Rattle.machine.proofs.laws.Reachable.{quiet}
 
 pub ends-unmoved : EndsUnmoved

@@ -14,10 +14,8 @@ use Rattle.message.specs.Judge.{allows, judge}
 use Rattle.message.specs.Make.{branch}
 use Rattle.message.specs.Rules.{Rules, table-rules}
 use Rattle.machine.specs.Machine.{Machine, Move, arrived, fresh-machine, does, move, moves, run, bad, is-forward, all-forwarded, Safe, Fewest}
-use Rattle.machine.specs.Fit.{both-are, right, Reachable, Fits, Count, owns, spoken, speaks, shown, of-speakers, shown-moves, but-last}
-use Rattle.machine.specs.Fit.{last-count, field-named, Failing}
-use Rattle.machine.specs.Answer.{Answer, refused, fits, fails, fit-questions, Answered}
-use Rattle.machine.specs.Answer.{FitEditionUnseen, SafeEditionUnseen, FitSharesUnseen, SafeSharesUnseen}
+use Rattle.machine.specs.Fit.{both-are, right, Reachable, Fits, Count, owns, spoken, speaks, shown, of-speakers, shown-moves, but-last, last-count, field-named, Failing}
+use Rattle.machine.specs.Answer.{Answer, refused, fits, fails, fit-questions, Answered, FitEditionUnseen, SafeEditionUnseen, FitSharesUnseen, SafeSharesUnseen}
 use Rattle.table.proofs.laws.Lists.{both}
 use Rattle.machine.proofs.laws.Failing.{shown-length}
 use Rattle.machine.proofs.claims.EditionUnseen.{all-on, bad-on, forward-move, fewest-back, safe-back}

@@ -1,24 +1,15 @@
 -- Each text of a well-formed message is an encoding, and one behind the other they are all that stands behind the arrays.
 -- Assumes nothing.
-use mathlib.Core.Path.{_≡_, refl, sym, ap, ap₂, _∙_}
-use mathlib.Core.Logic.{_⊎_, ⊎-elim}
-use mathlib.Core.Bool.{Bool, true, _&&_}
-use mathlib.Core.List.{List, [], _∷_, _++_, map, flatten}
-use Prim.Native.Nat.{ℕ, zero, suc, _+_, _*_, _-_, _≤_, _<_}
-use native.Mathlib.Nat.{not-suc-le-zero, le-of-suc-le-suc}
+use mathlib.Core.Path.{_≡_}
+use mathlib.Core.List.{[]}
+use Prim.Native.Nat.{_+_, _*_, _-_}
 use native.Mathlib.Omega.{arith}
-use lib.ListN.{length, getD, take, drop, length-drop, take-append-drop, drop-of-length-le}
-use lib.Seq.{take-all, take-add, drop-at, drop-cons, drop-drop, length-take-le, getD-take}
-use Rattle.table.specs.Lists.{every}
+use lib.ListN.{length, getD, drop, length-drop}
 use borrow.Author.Tests.{eqb-true}
-use Rattle.table.proofs.laws.Lists.{both, join}
-use Rattle.utf8.specs.Utf8.{is-utf8}
-use Rattle.utf8.specs.inner.Characters.{is-ascii}
-use Rattle.utf8.proofs.laws.Characters.{ascii-utf8, ascii-take, ascii-drop}
 use Rattle.utf8.proofs.claims.EncodedExactly.{encoded-exactly}
-use Rattle.message.specs.Message.{Value, count-of, values-of, text-length, text-bytes, announced, cut-up, texts-of, exact, legal-texts}
+use Rattle.message.specs.Message.{count-of, values-of, text-bytes, announced, texts-of, exact, legal-texts}
 use Rattle.message.specs.MessageTheorems.{EachTextEncoded, TextsApart}
-use Rattle.message.proofs.laws.Message.{value-at, values-length, value-by-place, well-formed-exactly, framed-parts, formed-framed}
+use Rattle.message.proofs.laws.Message.{well-formed-exactly, framed-parts, formed-framed}
 use Rattle.message.proofs.laws.LegalTexts.{cut-joined, cut-lengths, each-every, every-one}
 
 pub each-text-encoded : EachTextEncoded

@@ -23,7 +23,7 @@ use Rattle.utf8.specs.inner.Characters.{is-ascii}
 use Rattle.message.specs.Message.{Value, number-of, first-number, pair-up, count-of, values-of, read, text-bytes, announced, cut-up, texts-of, whole, legal-value, legal-values, exact, legal-texts, well-formed}
 use Rattle.message.specs.Judge.{same-kind, in-range, holds, allows}
 use Rattle.message.specs.Make.{four-bytes, numbers-of, write, chosen, branch-message, made, branch, names-field, exists, opening, making}
-use Rattle.message.specs.MessageTheorems.{OpensWith, MadeAllowed}
+use Rattle.message.specs.MessageTheorems.{OpensWith}
 use Rattle.message.proofs.laws.Judge.{allows-by}
 use Rattle.message.proofs.laws.Making.{says-9, says-18, says-16, says-length}
 use Rattle.message.proofs.laws.LegalTexts.{ascii-texts}

@@ -1,22 +1,20 @@
 -- The label where it stands: the law of the one compare, and the first eight bytes as a label of a table.
 -- Assumes nothing.
-use mathlib.Core.Path.{_≡_, refl, sym, ap, subst, _∙_}
-use mathlib.Core.Bool.{true}
+use mathlib.Core.Path.{_≡_, refl, sym, ap, _∙_}
 use mathlib.Core.List.{List, [], _∷_, _++_}
 use Prim.Native.Nat.{ℕ, suc, _+_, _*_, _≤_, _<_}
 use native.Mathlib.Omega.{arith}
 use lib.ListN.{length, getD, take, drop}
-use lib.Dec.{leb, eqb}
-use borrow.Author.Tests.{leb-true, le-leb, eqb-true, eq-eqb}
-use Rattle.table.specs.Lists.{same, upto}
+use lib.Dec.{eqb}
+use borrow.Author.Tests.{eqb-true, eq-eqb}
+use Rattle.table.specs.Lists.{upto}
 use Rattle.table.specs.View.{label-of}
 use Rattle.table.specs.inner.Scans.{Word}
-use Rattle.table.proofs.laws.Lists.{both, join, alike}
+use Rattle.table.proofs.laws.Lists.{alike}
 use Rattle.table.proofs.laws.LegalLabel.{byte, label-bytes}
-use Rattle.table.proofs.laws.View.{label-eq, same-eq, same-refl}
+use Rattle.table.proofs.laws.View.{label-eq}
 use Rattle.message.specs.Message.{has-label}
 use Rattle.message.specs.inner.Layout.{word-here}
-use Rattle.message.specs.MessageTheorems.{LabelInPlace}
 use Rattle.message.proofs.claims.LabelInPlace.{label-in-place}
 use Rattle.message.proofs.laws.Message.{part-places}
 

@@ -19,7 +19,7 @@ use Rattle.table.proofs.laws.Table.{every-get-d, sound-parts}
 use Rattle.message.specs.Message.{Value, Message}
 use Rattle.message.specs.Judge.{same-kind, in-range, holds, names, carries, goes, allows, Judgement, allowed, first-outside, by-range, by-fields, judge-among, judge, forbidden}
 use Rattle.message.specs.Make.{branch}
-use Rattle.message.specs.MessageTheorems.{Named, nth-field, nth-value, FirstOutside, JudgedExactly}
+use Rattle.message.specs.MessageTheorems.{Named, nth-field, nth-value, FirstOutside}
 
 -- nothing is not something
 pub none-some : {A X : Type 0} {a : A} → none ≡ some a → X

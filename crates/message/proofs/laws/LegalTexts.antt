@@ -10,15 +10,12 @@ use native.Mathlib.Omega.{arith}
 use lib.ListN.{length, getD, take, drop, length-drop, take-append-drop, drop-of-length-le}
 use lib.Seq.{take-all, take-add, drop-at, drop-cons, drop-drop, length-take-le, getD-take}
 use Rattle.table.specs.Lists.{every}
-use borrow.Author.Tests.{eqb-true}
 use Rattle.table.proofs.laws.Lists.{both, join}
 use Rattle.utf8.specs.Utf8.{is-utf8}
 use Rattle.utf8.specs.inner.Characters.{is-ascii}
 use Rattle.utf8.proofs.laws.Characters.{ascii-utf8, ascii-take, ascii-drop}
-use Rattle.utf8.proofs.claims.EncodedExactly.{encoded-exactly}
-use Rattle.message.specs.Message.{Value, count-of, values-of, text-length, text-bytes, announced, cut-up, texts-of, exact, legal-texts}
-use Rattle.message.specs.MessageTheorems.{EachTextEncoded, TextsApart}
-use Rattle.message.proofs.laws.Message.{value-at, values-length, value-by-place, well-formed-exactly, framed-parts, formed-framed}
+use Rattle.message.specs.Message.{Value, count-of, values-of, text-length, text-bytes, cut-up, texts-of, legal-texts}
+use Rattle.message.proofs.laws.Message.{value-at, values-length, value-by-place}
 
 -- from field f on, whose text begins at a place
 abbrev pub left-legal : List ℕ → ℕ → ℕ → Bool

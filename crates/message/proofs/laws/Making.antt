@@ -10,12 +10,11 @@ use native.Mathlib.Omega.{arith}
 use lib.ListN.{length, drop, length-append, length-replicate}
 use lib.Dec.{leb, ltb, eqb, eqb·zero-suc, eqb·suc-zero, eqb·suc-suc}
 use borrow.Author.Tests.{leb-true, lt-ltb, le-ltb, le-leb, lt-leb, ne-eqb}
-use Rattle.table.specs.Lists.{upto}
+use Rattle.table.specs.Lists.{upto, first-no}
 use Rattle.table.specs.View.{branches-of, count-at, word-at, kind-at, label-of, field-at, branch-at, view, sound-of}
 use Rattle.table.proofs.laws.Lists.{both, left-fails, upto-length}
 use Rattle.table.proofs.laws.View.{Facts, upto-at, branches-of-is}
 use Rattle.message.specs.Message.{Value, text-bytes}
-use Rattle.table.specs.Lists.{first-no}
 use Rattle.message.specs.Make.{four-bytes, numbers-of, write, chosen, branch-message, made, branch, names-field, exists, make-questions, Making, opening, making}
 use Rattle.message.specs.inner.Layout.{put-at, in-a-row, laid, total, is-named, has, number-chosen, text-at}
 use Rattle.message.proofs.laws.Layout.{run-length}

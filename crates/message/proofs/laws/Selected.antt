@@ -1,20 +1,18 @@
 -- The number of the branch that a message takes: the first that carries it, and so the one whose target it goes to.
 -- Assumes nothing.
-use mathlib.Core.Path.{_≡_, refl, sym, ap, subst, _∙_}
+use mathlib.Core.Path.{_≡_, refl, sym, ap, _∙_}
 use mathlib.Core.Bool.{Bool, true, false, cond}
 use mathlib.Core.List.{List, [], _∷_}
 use mathlib.Core.Option.{none, some}
 use Prim.Native.Nat.{ℕ, zero, suc, _+_, _<_, zero-le, suc-le-suc}
-use native.Mathlib.Nat.{not-suc-le-zero, le-of-suc-le-suc, add-zero, zero-add}
+use native.Mathlib.Nat.{not-suc-le-zero, le-of-suc-le-suc, add-zero}
 use native.Mathlib.Omega.{arith}
 use lib.ListN.{length, getD}
 use Rattle.table.specs.Lists.{upto, matched}
 use Rattle.table.specs.Table.{Branch}
 use Rattle.table.proofs.laws.Lists.{both}
 use Rattle.message.specs.Message.{Message}
-use Rattle.message.specs.Judge.{holds, names, carries, goes, allows, selected-from, selected}
-use Rattle.message.specs.Make.{branch}
-use Rattle.message.specs.MessageTheorems.{SelectedExactly}
+use Rattle.message.specs.Judge.{holds, names, carries, goes, selected-from}
 use Rattle.message.proofs.laws.Judge.{none-some, some-eq, names-parts}
 
 module _ (i : ℕ) (m : Message) where

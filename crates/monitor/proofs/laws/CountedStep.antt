@@ -18,13 +18,11 @@ use Rattle.conversation.specs.declared.State.{State}
 use Rattle.monitor.specs.declared.judge.Judged.{Judged}
 use Rattle.monitor.specs.declared.judge.Judged.the-variants.{Allowed, Forbidden}
 use Rattle.conversation.specs.Step.{of-state, step-questions, Told, refusing, blaming, forwarding, judging}
-use Rattle.conversation.specs.Due.{awaited}
 use Rattle.conversation.specs.Due as Due
-use Rattle.conversation.specs.Counts.{Counts, counts-sound, raised, raised-by, counted, counted-step, counted-turn}
+use Rattle.conversation.specs.Counts.{Counts, counts-sound, raised, raised-by, counted, counted-step}
 use Rattle.conversation.specs.inner.Keeping.{Rising}
 use Rattle.monitor.specs.inner.Leaves.{judgement, judged-branch, Selects, Settled, Straight}
 use Rattle.conversation.proofs.laws.Step.{nine-by, opened, asked-first, asked-message, said-in-turn, said-here, refused-step, judged-as}
-use Rattle.conversation.proofs.laws.Due.{refused-turn}
 use Rattle.conversation.proofs.laws.Counts.{chosen-follows, raised-at-is}
 
 pub together : {A B : Type 0} {a b : A} {x y : B} → a ≡ b → x ≡ y → _≡_ {A = A × B} (a, x) (b, y)

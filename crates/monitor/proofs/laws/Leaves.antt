@@ -1,17 +1,15 @@
--- One place of a table: what a compare says of the tests of specs/Leaves.
+-- One place of a table: what a compare says of the tests of specs/inner/Leaves.
 -- Assumes nothing.
-use mathlib.Core.Path.{_≡_, ap, _∙_}
-use mathlib.Core.Bool.{true, false, not, _&&_, _||_}
+use mathlib.Core.Path.{_≡_, ap}
+use mathlib.Core.Bool.{true, false, not, _&&_}
 use mathlib.Core.List.{List}
 use Prim.Native.Nat.{ℕ, _+_, _*_, _≤_, _<_}
 use lib.ListN.{getD}
-use lib.Dec.{leb, eqb}
+use lib.Dec.{leb}
 use borrow.Author.Tests.{eq-eqb, ne-eqb, le-leb, lt-leb}
 use Rattle.table.proofs.laws.Lists.{join, left-fails, right-fails}
-use Rattle.table.specs.View.{sort-at, owner-at, word-at, kind-at, low-at, high-at}
+use Rattle.table.specs.View.{owner-at, word-at, kind-at, low-at, high-at}
 use Rattle.message.specs.Message.{number-at, count-of, has-label}
-use Rattle.conversation.specs.Counts.{n-at, counted-most}
-use Rattle.conversation.specs.inner.Keeping.{sums-to}
 use Rattle.monitor.specs.inner.Leaves.{branch-named, kind-is, inside}
 
 module _ (t : List ℕ) (i : ℕ) (bytes : List ℕ) (k : ℕ) where

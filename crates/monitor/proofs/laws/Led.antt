@@ -20,22 +20,17 @@ use Rattle.message.specs.Judge.{selected}
 use Rattle.conversation.specs.declared.State.{State}
 use Rattle.conversation.specs.declared.Stepped.{Stepped}
 use Rattle.monitor.specs.declared.straight.Ahead.{Ahead}
-use Rattle.conversation.specs.Step.{is-running, told, Told, refused, blamed, forwarded, Outcome, refusing, blaming, forwarding, stepping}
-use Rattle.conversation.specs.Step.{outcome}
+use Rattle.conversation.specs.Step.{is-running, told, Told, refused, blamed, forwarded, Outcome, refusing, blaming, forwarding, stepping, outcome}
 use Rattle.conversation.specs.Due.{of-side, awaited, first-length}
 use Rattle.conversation.specs.Due as Due
-use Rattle.conversation.specs.Batch.{Lane, used-by, written-by, Taken, taken, taking, Batch, latest, device-took, host-took, turn-of}
-use Rattle.conversation.specs.Batch.{one-turn, go-on, turns, batch-questions, begun}
+use Rattle.conversation.specs.Batch.{Lane, used-by, written-by, Taken, taken, taking, Batch, latest, device-took, host-took, turn-of, one-turn, go-on, turns, batch-questions, begun}
 use Rattle.conversation.specs.Conversation.{is-forwarded}
-use Rattle.conversation.specs.Counts.{Counts, counts-sound, raised, raised-by, raised-at, counted, first-left, awaited-message, turn-message, count-on}
-use Rattle.conversation.specs.Counts.{counted-turns, counted-batch}
-use Rattle.conversation.specs.inner.Keeping.{Rising, moved-to}
-use Rattle.conversation.specs.inner.Keeping.{Heard, LaneIn, Within, is-last-forwarded}
+use Rattle.conversation.specs.Counts.{Counts, counts-sound, raised, raised-by, raised-at, counted, first-left, awaited-message, turn-message, count-on, counted-turns, counted-batch}
+use Rattle.conversation.specs.inner.Keeping.{Rising, moved-to, Heard, LaneIn, Within, is-last-forwarded}
 use Rattle.monitor.specs.inner.Lanes.{Led, no-turn, a-turn, answer-counted, counted-one-turn, PassedOn}
 use Rattle.conversation.proofs.laws.Step.{nine-by, zero-or, entered, Way, refuses, forwards, blames, way}
 use Rattle.conversation.proofs.laws.Due.{first-cut}
-use Rattle.conversation.proofs.laws.Batch.{devices-turn, hosts-turn, takes-none, takes-one, now-due, used-in, written-in, left, turn-is}
-use Rattle.conversation.proofs.laws.Batch.{turn-by, stays, on-over, begun-within, kept-out, let-in, sound-parts}
+use Rattle.conversation.proofs.laws.Batch.{devices-turn, hosts-turn, takes-none, takes-one, now-due, used-in, written-in, left, turn-is, turn-by, stays, on-over, begun-within, kept-out, let-in, sound-parts}
 use Rattle.conversation.proofs.laws.Counts.{raised-at-is, raised-at-rising}
 use Rattle.monitor.proofs.laws.PassedOn.{whole-rest, none-past}
 

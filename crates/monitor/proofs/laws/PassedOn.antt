@@ -20,9 +20,8 @@ use Rattle.conversation.specs.Step.{forwarded, forwarding, judging, step-questi
 use Rattle.conversation.specs.Due.{of-side, awaited, first-length}
 use Rattle.conversation.specs.Batch.{Lane, used-by, written-by, taken, taking}
 use Rattle.conversation.specs.Counts.{first-left}
-use Rattle.conversation.specs.inner.Keeping.{moved-to}
+use Rattle.conversation.specs.inner.Keeping.{moved-to, Heard, LaneIn}
 use Rattle.monitor.specs.inner.Leaves.{Leading}
-use Rattle.conversation.specs.inner.Keeping.{Heard, LaneIn}
 use Rattle.monitor.specs.inner.Lanes.{PassedOn}
 use Rattle.conversation.proofs.laws.Step.{judged-as}
 use Rattle.conversation.proofs.laws.Due.{first-within}

@@ -1,16 +1,14 @@
 -- What the inner functions of a batch say and ask. It need not be believed: the laws tie it to Batch.
 -- Assumes nothing.
 use mathlib.Core.Path.{_≡_}
-use mathlib.Core.Bool.{Bool, true, false}
 use mathlib.Core.List.{List}
 use mathlib.Core.Option.{Option, none, some}
 use Prim.Native.Nat.{ℕ, _+_, _≤_, _<_}
 use lib.ListN.{length}
-use Rattle.table.specs.View.{Words, branches-of, target-at, view, sound-at}
+use Rattle.table.specs.View.{Words, branches-of, target-at, view}
 use Rattle.table.specs.declared.Party.{Party}
 use Rattle.message.specs.Message.{read}
 use Rattle.message.specs.Judge.{selected}
-use Rattle.message.specs.inner.Layout.{Framed}
 use Rattle.conversation.specs.declared.State.{State}
 use Rattle.monitor.specs.declared.straight.Ahead.{Ahead}
 use Rattle.conversation.specs.declared.batch.Last.{Last}
@@ -21,7 +19,6 @@ use Rattle.monitor.specs.declared.lane.Taken.{Taken}
 use Rattle.monitor.specs.declared.batch.Turned.{Turned}
 use Rattle.conversation.specs.Step.{Told, forwarded}
 use Rattle.conversation.specs.Due.{of-side, awaited}
-use Rattle.conversation.specs.Conversation.{is-forwarded}
 use Rattle.conversation.specs.Batch.{Batch, taking, one-turn, last-of, batched}
 use Rattle.conversation.specs.Counts.{Counts, raised-at, counted, first-left, turn-message}
 use Rattle.conversation.specs.inner.Keeping.{moved-to}

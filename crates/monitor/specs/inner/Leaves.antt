@@ -1,14 +1,14 @@
 -- What the inner functions say of a table and a message, by places. It need not be believed: the laws tie it to the other files.
 -- Assumes nothing.
 use mathlib.Core.Path.{_≡_}
-use mathlib.Core.Bool.{Bool, true, false, _&&_, _||_}
+use mathlib.Core.Bool.{Bool, true, false, _&&_}
 use mathlib.Core.List.{List}
 use mathlib.Core.Option.{Option, none, some}
 use Prim.Native.Nat.{ℕ, _+_, _*_, _≤_, _<_}
 use lib.ListN.{length, getD, take}
 use lib.Dec.{leb, eqb}
 use Rattle.table.specs.Table.{speaker, is-party}
-use Rattle.table.specs.View.{branches-of, sort-at, owner-at, target-at, word-at, count-at, kind-at, low-at, high-at, sort-of, view, sound-of}
+use Rattle.table.specs.View.{branches-of, owner-at, target-at, word-at, count-at, kind-at, low-at, high-at, sort-of, view}
 use Rattle.table.specs.inner.Scans.{all, legal-at}
 use Rattle.message.specs.Message.{number-at, count-of, values-of, text-bytes, read, legal-values, legal-texts, refusal, has-label}
 use Rattle.message.specs.Judge.{selected, Judgement, allowed, forbidden, judge}
@@ -17,7 +17,6 @@ use Rattle.monitor.specs.declared.judge.Judged.{Judged}
 use Rattle.monitor.specs.declared.judge.Judged.the-variants.{Allowed, Forbidden}
 use Rattle.conversation.specs.Step.{of-message, reason, outside}
 use Rattle.conversation.specs.Due.{first-length}
-use Rattle.conversation.specs.Counts.{n-at, k-at, counted-most}
 use Rattle.conversation.specs.declared.State.{State}
 use Rattle.conversation.specs.inner.Keeping.{Follows}
 use Rattle.table.specs.Lists.{first-no}

@@ -1,4 +1,4 @@
--- `monitor::due` meets its contract: the part begins where its side's bytes begin, and is as long as the first message.
+-- `questions::due` meets its contract: the part begins where its side's bytes begin, and is as long as the first message.
 -- Assumes nothing.
 use mathlib.Core.Path.{sym, ap, subst, _∙_}
 use Prim.Native.Nat.{_≤_}

@@ -1,4 +1,4 @@
--- `monitor::first_length` meets its contract: one law for each return. Assumes nothing.
+-- `questions::first_length` meets its contract: one law for each return. Assumes nothing.
 use mathlib.Core.Path.{sym, ap, _∙_}
 use native.Mathlib.Omega.{arith}
 use borrow.Author.Needs.{needs}

@@ -1,4 +1,4 @@
--- `monitor::fresh` meets its contract: one law for each return. Assumes nothing.
+-- `questions::fresh` meets its contract: one law for each return. Assumes nothing.
 use mathlib.Core.Path.{sym, _∙_}
 use native.Mathlib.Omega.{arith}
 use lib.Dec.{leb}

@@ -1,4 +1,4 @@
--- `monitor::start` meets its contract. Assumes nothing.
+-- `questions::start` meets its contract. Assumes nothing.
 use borrow.Author.Needs.{needs}
 use Rattle.conversation.specs.Step.{fresh}
 use Rattle.conversation.specs.Counts.{fresh-counts}

@@ -19,8 +19,7 @@ use Rattle.message.specs.Message.{Message}
 use Rattle.message.specs.Judge.{allows}
 use Rattle.message.specs.inner.Layout.{put-at}
 use Rattle.message.proofs.laws.Layout.{put-length, put-put, put-none}
-use Rattle.machine.specs.Machine.{Standing, running, device-blamed, host-blamed, jammed, Machine, arrived, fresh-machine, Move, Effect}
-use Rattle.machine.specs.Machine.{nothing, forward, halt, effect, does, after, move, play, run, bad, is-forward, Fewest}
+use Rattle.machine.specs.Machine.{Standing, running, device-blamed, host-blamed, jammed, Machine, arrived, fresh-machine, Move, Effect, nothing, forward, halt, effect, does, after, move, play, run, bad, is-forward, Fewest}
 use Rattle.machine.specs.Fit.{shown, Failing}
 use Rattle.machine.proofs.laws.Goes.{goes-by}
 use Rattle.fit.proofs.laws.CoveredBy.{view-sound}
@@ -30,8 +29,7 @@ use Rattle.report.specs.Report.{move-line, ending}
 use Rattle.report.specs.inner.Playing.{rules, lines-from, blames, kept, pair-of, Plays, move-at, Ready, high-in, ListShows}
 use Rattle.report.specs.declared.play.Pair.{Pair}
 use Rattle.report.specs.declared.play.Played.{Played}
-use Rattle.report.proofs.laws.Remaining.{at-last, Remains, remains-start, first, first-real, first-forwarded, remains-next}
-use Rattle.report.proofs.laws.Remaining.{remains-running, last-bad, rest-none, rest-first}
+use Rattle.report.proofs.laws.Remaining.{at-last, Remains, remains-start, first, first-real, first-forwarded, remains-next, remains-running, last-bad, rest-none, rest-first}
 
 -- ---- one move from a pair of one sort
 

@@ -13,8 +13,7 @@ use Rattle.table.specs.Table.{same-sort, Table, sort}
 use Rattle.table.proofs.laws.Lists.{both, join}
 use Rattle.message.specs.Message.{count-of, well-formed}
 use Rattle.message.specs.Rules.{Rules, table-rules}
-use Rattle.machine.specs.Machine.{running, jammed, Machine, arrived, fresh-machine, Move, moves, move, does, play, run, bad, is-forward}
-use Rattle.machine.specs.Machine.{all-forwarded, Fewest}
+use Rattle.machine.specs.Machine.{running, jammed, Machine, arrived, fresh-machine, Move, moves, move, does, play, run, bad, is-forward, all-forwarded, Fewest}
 use Rattle.machine.specs.Fit.{spoken, shown, but-last, last-count, field-named, Failing}
 use Rattle.report.specs.Report.{move-line, move-lines, ending}
 use Rattle.report.specs.inner.Playing.{lines-from}

@@ -14,8 +14,7 @@ use Rattle.message.specs.Make.{made, branch, opening}
 use Rattle.message.specs.inner.Layout.{put-at}
 use Rattle.message.specs.Rules.{Rules, table-rules}
 use Rattle.table.specs.declared.Party.{Party}
-use Rattle.machine.specs.Machine.{Machine, Move, Effect, nothing, forward, halt, Standing, running, device-blamed, host-blamed, jammed}
-use Rattle.machine.specs.Machine.{effect, fresh-machine, play, Fewest}
+use Rattle.machine.specs.Machine.{Machine, Move, Effect, nothing, forward, halt, Standing, running, device-blamed, host-blamed, jammed, effect, fresh-machine, play, Fewest}
 use Rattle.machine.specs.Fit.{spoken, shown, field-named, Failing}
 use Rattle.report.specs.Report.{move-line, move-lines, ending, Compared, Reported}
 use Rattle.report.specs.declared.play.Heard.{Heard}

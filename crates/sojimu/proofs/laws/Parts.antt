@@ -11,21 +11,18 @@ use native.Mathlib.Omega.{arith}
 use Rattle.table.specs.View.{Words, sort-at}
 use Rattle.table.specs.declared.Party.{Party}
 use Rattle.conversation.specs.declared.State.{State}
-use Rattle.conversation.specs.declared.Reason.{Reason}
-use Rattle.conversation.specs.declared.Verdict.the-variants.{Blamed}
 use Rattle.conversation.specs.declared.Stepped.{Stepped}
 use Rattle.conversation.specs.Step.{of-state, Told, refused, told, refusing, outcome}
 use Rattle.table.specs.Lists.{first-no}
 use Rattle.conversation.specs.Due.{awaited}
 use Rattle.conversation.specs.Due as Due
-use Rattle.conversation.specs.Counts.{Counts, counts-sound, counted-step, counted-turn}
+use Rattle.conversation.specs.Counts.{Counts, counts-sound, counted-step, counted-turn, counted-batch}
 use Rattle.conversation.proofs.laws.Step.{zero-or, opened, stops-there, goes-on}
 use Rattle.conversation.proofs.laws.Due.{refused-turn, device-awaited, host-awaited}
 use Rattle.codes.specs.declared.steps.Verdict.{Verdict}
-use Rattle.codes.specs.Codes.{code-side, state-in, state-bytes, verdict-codes}
+use Rattle.codes.specs.Codes.{code-side, state-in, verdict-codes}
 use Rattle.conversation.specs.declared.batch.Batched.{Batched}
 use Rattle.conversation.specs.Batch.{Batch, batched}
-use Rattle.conversation.specs.Counts.{counted-batch}
 use Rattle.codes.specs.declared.batches.Batch as C
 use Rattle.codes.specs.Calls.{stepping-as, bytes-after, crossing, step-codes, bytes-for, batch-codes, batch-crossing, batching-codes}
 use Rattle.sojimu.specs.inner.Parts.{unspoken, passed-codes}

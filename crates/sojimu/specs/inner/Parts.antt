@@ -1,7 +1,6 @@
 -- What the parts of a call say. It need not be believed: laws tie it to Calls (proofs/laws/Parts).
 -- Assumes nothing.
 use mathlib.Core.List.{[], _∷_}
-use Prim.Native.Nat.{ℕ}
 use Rattle.conversation.specs.declared.batch.Passed.{Passed}
 use Rattle.conversation.specs.Step.{Told, refused}
 use Rattle.conversation.specs.Due.{Awaited, of-side}

@@ -19,7 +19,6 @@ use Rattle.grammar.specs.Grammar.{Protocol, Tok, word, number, sign, print-text
 use Rattle.table.specs.Ascii.{ascii, letters, digits}
 use Rattle.spelling.specs.Spelling.{a-digit, dot, sign-tokens, dot-tokens, word-tokens, Listed, Digits, Spells, a-sign, a-dot, a-word, a-name, a-zero, a-number, a-negative, Spelt, ran-out, a-blank, a-token}
 use Rattle.spelling.specs.Speller.{beside, bytes, spelling, spell, Writable, Spellable}
-use Rattle.spelling.specs.TextTheorems.{DecimalValue}
 use Rattle.spelling.proofs.laws.Classes.{kinds, beside-listed}
 use Rattle.spelling.proofs.laws.Prints.{fixed, text-holds}
 

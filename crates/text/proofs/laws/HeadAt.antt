@@ -29,9 +29,8 @@ use Rattle.text.proofs.laws.ExpectAt.{expect-yes, expect-no}
 use Rattle.grammar.proofs.laws.Packed.{Label}
 use Rattle.grammar.proofs.laws.NameToken.{token-label}
 use Rattle.text.proofs.laws.Listed.{Clear, fields-clear}
-use Rattle.grammar.proofs.laws.Holds.{holds-states, holds-branches}
+use Rattle.grammar.proofs.laws.Holds.{holds-states, holds-branches, view-holds}
 use Rattle.text.proofs.laws.Stores.{holds-state, holds-branch, holds-target, holds-label}
-use Rattle.grammar.proofs.laws.Holds.{view-holds}
 use Rattle.text.proofs.laws.Gives.{gives-refused, gives-wrong, gives-read, head-read}
 use Rattle.text.specs.declared.step.Name.{Name}
 use Rattle.table.specs.Table as S

@@ -8,25 +8,25 @@ use Prim.Native.Nat.{ℕ, zero, suc, _+_, _-_, _*_, _/_, _%_, _≤_, _<_}
 use native.Mathlib.Nat.{le-of-suc-le-suc}
 use native.Mathlib.Omega.{arith}
 use lib.Dec.{eqb}
-use lib.ListN.{length, set, getD, length-append, length-map, List·getD-map}
+use lib.ListN.{length, set, getD, length-append, length-map}
 use borrow.Author.Tests.{eqb-true, eqb-false, lt-ltb, le-leb}
 use Rattle.table.specs.Lists.{some-one, same}
 use Rattle.table.specs.Table.{Sort, Field, Branch, Table}
-use Rattle.table.specs.View.{label-of, empty-table, states-of, branches-of, owner-at, word-at, share-at}
+use Rattle.table.specs.View.{label-of, empty-table, branches-of, owner-at, word-at}
 use Rattle.table.proofs.laws.Lists.{refuted}
 use Rattle.table.proofs.laws.View.{same-eq, same-refl}
-use Rattle.grammar.specs.Token.{packed, word-of}
+use Rattle.grammar.specs.Token.{word-of}
 use Rattle.grammar.specs.Building.{aimed, stateless, add-state, add-branch, add-share, label-used}
 use Rattle.grammar.specs.Filled.{padded, code-of, label-high, label-low, fours, joined, columns, filled}
 use Rattle.text.specs.inner.Stores.{put-state, set-head, store-at, put-branch, put-target, any-label}
 use Rattle.grammar.specs.inner.Holds.{Formed, AllFormed, Holds, set-four}
 use Rattle.text.specs.inner.Recursive.{branch-of, raw-of, last-aimed, aim-last}
 use Rattle.text.specs.declared.field.Fields.{Fields}
-use Rattle.grammar.proofs.laws.Padded.{map-append, next-set, padded-at, padded-length, four-set}
+use Rattle.grammar.proofs.laws.Padded.{map-append, next-set, padded-at, four-set}
 use Rattle.text.proofs.laws.Listed.{Clear, listed-length}
 use Rattle.grammar.proofs.laws.Packed.{Label}
 use Rattle.grammar.proofs.laws.Holds.{fours-length, widths, sized, holds-sized, no-branch, formed-at, owner-at-is, word-at-is}
-use Rattle.grammar.proofs.laws.Columns.{Sized, offset, changed, get, put, put-four, put-sized, four-sized}
+use Rattle.grammar.proofs.laws.Columns.{Sized, offset, changed, put, put-four, put-sized, four-sized}
 
 -- ---- one more
 

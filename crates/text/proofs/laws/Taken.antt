@@ -17,7 +17,6 @@ use Rattle.grammar.specs.Building.{empty-branch, labelled, field-added, set-edi
 use Rattle.grammar.specs.Reading.{Item, outset, edition, just, name, label, type, more, fields, field, low, high, more-fields, dot, share, Open, a-rec, a-choice, State, state, meaning, unguarded, owner-in, closed, left, token-formed, grammar-allows, admits, edition-known, is-found, name-bound, guarded, ranged, share-ranged, new-label, within, shares-add, sign-of, choice-sort, kind-of, a-branch, a-field, target, stored, began, taken, questions}
 use Rattle.text.specs.inner.Recursive.{unexpected-at}
 use Rattle.grammar.specs.declared.token.Token.{Token}
-use Rattle.grammar.proofs.laws.Questions.{asked}
 use Rattle.grammar.proofs.laws.Opening.{outset-same}
 use Rattle.text.proofs.laws.Moved.{at, moved, moved-at}
 use types.Run.{OneOf}

@@ -11,12 +11,11 @@ use lib.ListN.{length, set, getD, replicate}
 use Rattle.table.specs.Lists.{upto}
 use Rattle.table.specs.Table.{Field, Branch, Table, states-most, branches-most, fields-most, shares-sum}
 use Rattle.table.specs.View.{joined-label, label-of}
-use Rattle.grammar.specs.Token.{one-of, word-of, word-in}
+use Rattle.grammar.specs.Token.{one-of, word-in}
 use Rattle.grammar.specs.inner.Scanner.{token-at}
 use Rattle.grammar.specs.Number.{Signed, signed-in, offset, in-kind, in-count}
 use Rattle.grammar.specs.Grammar.{text-limit, open-most}
 use Rattle.grammar.specs.Building.{aimed, stateless, add-state, add-branch, add-share, label-used, choice-right, Built, came, denied}
-use Rattle.grammar.specs.Filled.{filled}
 use Rattle.grammar.specs.Reading.{sign-of, choice-sort, kind-of}
 use Rattle.grammar.specs.declared.token.Token.{Token}
 use Rattle.text.specs.declared.number.Number.{Number}

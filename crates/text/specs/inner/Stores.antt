@@ -5,7 +5,7 @@ use mathlib.Core.Bool.{Bool, false, _&&_, _||_, cond}
 use mathlib.Core.List.{List}
 use Prim.Native.Nat.{ℕ, zero, suc, _+_, _-_, _*_, _/_, _%_}
 use lib.Dec.{leb, ltb, eqb}
-use lib.ListN.{set, getD}
+use lib.ListN.{set}
 use Rattle.table.specs.View.{states-of, branches-of, owner-at, word-at}
 use Rattle.grammar.specs.inner.Holds.{set-four}
 use Rattle.text.specs.declared.build.Branch.{Branch}

@@ -13,8 +13,7 @@ use Rattle.grammar.specs.Grammar.{Way, SyntaxField, Ty, stop, var, loop, choice
 use Rattle.grammar.proofs.laws.Questions.{recs-guarded-br}
 use Rattle.grammar.proofs.laws.Reads.{five-unguarded}
 use Rattle.types.specs.Types.{substitute, substitute-br, unfolded, HasBranch, only, first, later, recs}
-use Rattle.types.specs.Contractive.{Unfolds, unfolds, Reaches, here, past-rec, past-message, Silent, Contractive}
-use Rattle.types.specs.Contractive.{ContractiveExactly, ReadContractive, FiveSilent}
+use Rattle.types.specs.Contractive.{Unfolds, unfolds, Reaches, here, past-rec, past-message, Silent, Contractive, ContractiveExactly, ReadContractive, FiveSilent}
 use Rattle.types.proofs.laws.Close.{free-br, Closed, closed-also, closed-unfolded}
 use Rattle.types.proofs.laws.Front.{closed-no-name, recs-unfolded, guarded-unfolded}
 use Rattle.types.proofs.laws.Closed.{bound-closed}

@@ -23,20 +23,17 @@ use Rattle.grammar.specs.Reading.{reads}
 use Rattle.grammar.proofs.laws.Reads.{read-sound}
 use Rattle.table.specs.declared.Party.{Party}
 use Rattle.conversation.specs.Step.{Told, refused, blamed, forwarded, refusing}
-use Rattle.conversation.specs.Conversation.{Sent, Event, conversation, said-by, is-refused, is-forwarded, forwarded-ones, blamed-else, blamed-first, Handled}
-use Rattle.conversation.specs.Conversation.{Met}
+use Rattle.conversation.specs.Conversation.{Sent, Event, conversation, said-by, is-refused, is-forwarded, forwarded-ones, blamed-else, blamed-first, Handled, Met}
 use Rattle.conversation.proofs.laws.Conversation.{blamed-for-good, forwarded-append, leads-more, its-turn, judgeable-none, nil-cons}
 use Rattle.conversation.proofs.laws.Step.{turn-its}
 use Rattle.conversation.proofs.claims.EarlyBlamed.{none-early}
 use Rattle.types.specs.Types.{opened, protocol-rules, flip}
 use Rattle.types.specs.Monitor.{Mon, verdict, synth, Runs, rest as at-rest}
-use Rattle.types.specs.Verdicts.{heard-said, passed-on, for-early, in-turn, FirstInTurn, SameVerdicts, SameTold, blamed-by, ends-in-blame, proper-sent}
-use Rattle.types.specs.Verdicts.{SameBreaks}
+use Rattle.types.specs.Verdicts.{heard-said, passed-on, for-early, in-turn, FirstInTurn, SameVerdicts, SameTold, blamed-by, ends-in-blame, proper-sent, SameBreaks}
 use Rattle.types.proofs.laws.ProtocolRules.{Proper, next-onward, next-turn, proper-next}
 use Rattle.types.proofs.claims.RulesExactly.{proper, edition-is}
 use Rattle.types.proofs.claims.Headline.{type-demand}
-use Rattle.types.proofs.laws.Monitor.{Midway, Begun, midway, broke, on, course, goes-on, breaks, onward-is, verdict-eq, led-on}
-use Rattle.types.proofs.laws.Monitor.{led-nowhere}
+use Rattle.types.proofs.laws.Monitor.{Midway, Begun, midway, broke, on, course, goes-on, breaks, onward-is, verdict-eq, led-on, led-nowhere}
 
 -- ---- who is blamed
 

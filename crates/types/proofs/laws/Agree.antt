@@ -14,15 +14,13 @@ use Rattle.table.specs.Table as T
 use Rattle.table.specs.View.{label-of}
 use Rattle.table.proofs.laws.Lists.{never}
 use Rattle.message.specs.Message.{Message, Value}
-use Rattle.message.specs.Judge.{same-kind, names, goes, allows, Judgement, allowed, forbidden, first-outside, by-range, by-fields}
-use Rattle.message.specs.Judge.{judge-among, judge}
+use Rattle.message.specs.Judge.{same-kind, names, goes, allows, Judgement, allowed, forbidden, first-outside, by-range, by-fields, judge-among, judge}
 use Rattle.message.specs.Rules.{Rules, table-rules, Said, and-then, is-some, turn, next, leads, led, allowed-list, completed-list}
 use Rattle.grammar.specs.Grammar.{Ty, Br, last, also, Protocol, sorts, Scope, nothing-bound, first-state, branch-for, edition-named, table-of, recs-guarded}
 use Rattle.types.specs.Types.{opened, judge-br, sort-opened, allows-opened, judge-opened, protocol-rules}
 use Rattle.types.proofs.laws.Close.{Closed, Meaning, close, close-br, no-meaning, close-none}
 use Rattle.types.proofs.laws.Front.{closed-no-name}
-use Rattle.types.proofs.laws.StandsFor.{own, Alike, neither, each, none-yet, Represents, Head, an-end, a-choice, head}
-use Rattle.types.proofs.laws.StandsFor.{goes-alike}
+use Rattle.types.proofs.laws.StandsFor.{own, Alike, neither, each, none-yet, Represents, Head, an-end, a-choice, head, goes-alike}
 use Rattle.types.proofs.laws.Numbering.{at, table-stands, allows-at, judge-at}
 
 -- why a judgement forbids

@@ -9,8 +9,7 @@ use lib.Dec.{eqb}
 use lib.ListN.{length, length-map, List·getD-map}
 use Rattle.table.specs.Table.{Sort, ends, sends, receives, Table, sort, is-choice, opposite, dual as dual-table, speaker, is-party}
 use Rattle.message.specs.Judge.{allows}
-use Rattle.grammar.specs.Grammar.{Way, sending, receiving, Ty, stop, var, loop, choice, Br, last, also, way-sort, sorts, Protocol}
-use Rattle.grammar.specs.Grammar.{sorts-br, Scope, nothing-bound, bind, first-state, branches, branches-br, share-of, shares, shares-br, table-of, bare, recs-guarded}
+use Rattle.grammar.specs.Grammar.{Way, sending, receiving, Ty, stop, var, loop, choice, Br, last, also, way-sort, sorts, Protocol, sorts-br, Scope, nothing-bound, bind, first-state, branches, branches-br, share-of, shares, shares-br, table-of, bare, recs-guarded}
 use Rattle.grammar.proofs.laws.Questions.{recs-guarded-br}
 use Rattle.table.specs.declared.Party.{Party}
 use Rattle.table.specs.declared.Party.the-variants.{Device, Host}

@@ -18,14 +18,10 @@ use Rattle.message.proofs.laws.Judge.{none-some}
 use Rattle.table.specs.declared.Party.{Party}
 use Rattle.table.specs.Table.{speaker, is-party}
 use Rattle.message.specs.Rules.{Said, turn, next}
-use Rattle.types.specs.Types.{side-of, substitute, substitute-br, unfolded, hold, HasBranch, only, first, later, recs, unroll, opened, matches, takes}
-use Rattle.types.specs.Types.{sort-opened, protocol-rules, other, flip}
-use Rattle.types.specs.Monitor.{the, Mon, tell, hear, mu, name, test, done, verdict, one, more, fill, replace, replace-arms, Arm}
-use Rattle.types.specs.Monitor.{the-one, this, that, expects, telling, unfolding-rec, hearing, passing, failing, violating, arm}
-use Rattle.types.specs.Monitor.{synth, synth-br, Runs, rest, alone, on-hearing, on-telling}
+use Rattle.types.specs.Types.{side-of, substitute, substitute-br, unfolded, hold, HasBranch, only, first, later, recs, unroll, opened, matches, takes, sort-opened, protocol-rules, other, flip}
+use Rattle.types.specs.Monitor.{the, Mon, tell, hear, mu, name, test, done, verdict, one, more, fill, replace, replace-arms, Arm, the-one, this, that, expects, telling, unfolding-rec, hearing, passing, failing, violating, arm, synth, synth-br, Runs, rest, alone, on-hearing, on-telling}
 use Rattle.conversation.proofs.laws.Step.{turn-its}
-use Rattle.types.proofs.laws.ProtocolRules.{Proper, proper-opened, onward, next-onward, speaker-sort, is-stop, is-loop, opened-no-loop, decides}
-use Rattle.types.proofs.laws.ProtocolRules.{Taken, taken, said, party-its}
+use Rattle.types.proofs.laws.ProtocolRules.{Proper, proper-opened, onward, next-onward, speaker-sort, is-stop, is-loop, opened-no-loop, decides, Taken, taken, said, party-its}
 
 -- ---- synthesis goes with substitution, and binds no payload outside an input
 

@@ -13,8 +13,7 @@ use Rattle.table.specs.Lists.{matched, same}
 use Rattle.table.specs.Table.{Sort, ends, Branch, Table, sort}
 use Rattle.message.specs.Message.{Message}
 use Rattle.message.specs.Judge.{holds, names, carries, goes, allows, by-fields, judge-among, judge}
-use Rattle.grammar.specs.Grammar.{Ty, stop, var, loop, choice, Br, last, also, way-sort, sorts, sorts-br, Scope, nothing-bound, bind, first-state, Protocol}
-use Rattle.grammar.specs.Grammar.{branch-for, branches, branches-br, table-of}
+use Rattle.grammar.specs.Grammar.{Ty, stop, var, loop, choice, Br, last, also, way-sort, sorts, sorts-br, Scope, nothing-bound, bind, first-state, Protocol, branch-for, branches, branches-br, table-of}
 use Rattle.types.proofs.laws.StandsFor.{own, Stands, StandsBr}
 
 -- ---- lists

@@ -18,11 +18,8 @@ use Rattle.message.specs.Message.{Value, Message}
 use Rattle.message.specs.Judge.{same-kind, in-range, holds}
 use Rattle.grammar.specs.Token.{word-of}
 use Rattle.grammar.specs.Number.{offset, in-kind}
-use Rattle.grammar.proofs.laws.Questions.{recs-guarded-br}
-use Rattle.grammar.specs.Grammar.{SyntaxField, Ty, stop, var, loop, choice, Br, last, also, recs-guarded, label-among, Protocol}
-use Rattle.grammar.proofs.laws.Questions.{labels-new-br, branches-legal-br}
-use Rattle.grammar.specs.Grammar.{labels-new, fields-legal, branches-legal, way-sort, sending, receiving, Way}
-use Rattle.grammar.specs.Grammar.{range-legal, kind-code}
+use Rattle.grammar.proofs.laws.Questions.{recs-guarded-br, labels-new-br, branches-legal-br}
+use Rattle.grammar.specs.Grammar.{SyntaxField, Ty, stop, var, loop, choice, Br, last, also, recs-guarded, label-among, Protocol, labels-new, fields-legal, branches-legal, way-sort, sending, receiving, Way, range-legal, kind-code}
 use Rattle.message.proofs.laws.Judge.{none-some}
 use Rattle.conversation.proofs.laws.Step.{turn-its}
 use Rattle.conversation.proofs.laws.Conversation.{its-turn}
@@ -31,9 +28,7 @@ use Rattle.grammar.proofs.laws.NameToken.{Labelled, LabelledBr}
 use Rattle.table.specs.declared.Party.{Party}
 use Rattle.table.specs.Table.{fields-most, speaker, is-party}
 use Rattle.message.specs.Rules.{Said, and-then, turn, next, leads}
-use Rattle.types.specs.Types.{side-of, substitute, substitute-br, unfolded, hold, HasBranch, only, first, later, Step, by-branch, by-rec, Steps, no-step}
-use Rattle.types.specs.Types.{a-step, Ends, at-stop, past-rec, recs, unroll, opened, matches, takes, sort-opened, allows-opened}
-use Rattle.types.specs.Types.{protocol-rules}
+use Rattle.types.specs.Types.{side-of, substitute, substitute-br, unfolded, hold, HasBranch, only, first, later, Step, by-branch, by-rec, Steps, no-step, a-step, Ends, at-stop, past-rec, recs, unroll, opened, matches, takes, sort-opened, allows-opened, protocol-rules}
 use Rattle.types.proofs.laws.Close.{Closed, closed-also, closed-unfolded}
 use Rattle.types.proofs.laws.Front.{named, closed-no-name, recs-unfolded, opened-rec, guarded-unfolded}
 

@@ -14,13 +14,11 @@ use Rattle.table.specs.View.{label-of}
 use Rattle.table.proofs.laws.Lists.{both, or-left, or-right}
 use Rattle.message.specs.Message.{Message}
 use Rattle.message.specs.Judge.{holds, names, carries, goes}
-use Rattle.grammar.specs.Grammar.{Way, SyntaxField, Ty, stop, var, loop, choice, Br, last, also, field-of, way-sort, sorts, Scope, nothing-bound, bind}
+use Rattle.grammar.specs.Grammar.{Way, SyntaxField, Ty, stop, var, loop, choice, Br, last, also, field-of, way-sort, sorts, Scope, nothing-bound, bind, or-else, first-state, branch-for, bare, recs-guarded}
 use Rattle.grammar.proofs.laws.Questions.{recs-guarded-br}
-use Rattle.grammar.specs.Grammar.{or-else, first-state, branch-for, bare, recs-guarded}
 use Rattle.types.specs.Types.{recs, unroll, opened, hold, matches, takes}
 use Rattle.message.proofs.laws.Judge.{none-some}
-use Rattle.types.proofs.laws.Close.{free, free-br, Meaning, hide, given, otherwise, close, close-br, Shut, Covers, CoversBr}
-use Rattle.types.proofs.laws.Close.{hide-shut, given-shut, given-covers, hide-covers, put-close, close-free, no-meaning, none-shut}
+use Rattle.types.proofs.laws.Close.{free, free-br, Meaning, hide, given, otherwise, close, close-br, Shut, Covers, CoversBr, hide-shut, given-shut, given-covers, hide-covers, put-close, close-free, no-meaning, none-shut}
 use Rattle.types.proofs.laws.Front.{named, named-free, recs-close, opened-unused}
 
 -- a choice's own branches: o is its state, n the next free one

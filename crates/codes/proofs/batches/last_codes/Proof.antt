@@ -1,4 +1,4 @@
--- `sojimu::batches::last_codes` meets its contract. Assumes nothing.
+-- `codes::batches::last_codes` meets its contract. Assumes nothing.
 use borrow.Author.Needs.{needs}
 use Rattle.conversation.specs.Batch.{last-of}
 use Rattle.codes.proofs.batches.last_codes.Statement.{statement}

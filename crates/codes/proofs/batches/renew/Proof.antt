@@ -1,4 +1,4 @@
--- `sojimu::batches::renew` meets its contract. Assumes nothing.
+-- `codes::batches::renew` meets its contract. Assumes nothing.
 use mathlib.Core.Path.{sym, _∙_}
 use borrow.Author.Needs.{needs}
 use Rattle.codes.proofs.laws.BatchingCodes.{bytes-left, bytes-put}

@@ -1,4 +1,4 @@
--- `sojimu::batches::stand_for` meets its contract. Assumes nothing.
+-- `codes::batches::stand_for` meets its contract. Assumes nothing.
 use mathlib.Core.Path.{ap, ap₂, _∙_}
 use lib.Dec.{eqb}
 use borrow.Author.Needs.{needs}

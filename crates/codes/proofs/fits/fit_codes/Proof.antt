@@ -1,4 +1,4 @@
--- `sojimu::fits::fit_codes` meets its contract. Assumes nothing.
+-- `codes::fits::fit_codes` meets its contract. Assumes nothing.
 use borrow.Author.Needs.{needs}
 use Rattle.machine.specs.Answer.{answer-of}
 use Rattle.codes.proofs.fits.fit_codes.Statement.{statement}

@@ -1,4 +1,4 @@
--- `sojimu::fits::high_code` meets its contract. Assumes nothing.
+-- `codes::fits::high_code` meets its contract. Assumes nothing.
 use borrow.Author.Needs.{needs}
 use Rattle.message.specs.Make.{high-of}
 use Rattle.codes.proofs.fits.high_code.Statement.{statement}

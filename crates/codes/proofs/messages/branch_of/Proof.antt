@@ -1,4 +1,4 @@
--- `sojimu::messages::branch_of` meets its contract. Assumes nothing.
+-- `codes::messages::branch_of` meets its contract. Assumes nothing.
 use native.Mathlib.Omega.{arith}
 use borrow.Author.Needs.{needs}
 use Rattle.codes.proofs.laws.Wide.{same-branch}

@@ -1,4 +1,4 @@
--- `sojimu::messages::high_of` meets its contract. Assumes nothing.
+-- `codes::messages::high_of` meets its contract. Assumes nothing.
 use mathlib.Core.Path.{refl}
 use native.Mathlib.Omega.{arith}
 use borrow.Author.Needs.{needs}

@@ -1,4 +1,4 @@
--- `sojimu::messages::made_codes` meets its contract. Assumes nothing.
+-- `codes::messages::made_codes` meets its contract. Assumes nothing.
 use borrow.Author.Needs.{needs}
 use Rattle.message.specs.Make.{made-numbers}
 use Rattle.codes.proofs.messages.made_codes.Statement.{statement}

@@ -1,4 +1,4 @@
--- `sojimu::steps::blame_codes` meets its contract. Assumes nothing.
+-- `codes::steps::blame_codes` meets its contract. Assumes nothing.
 use mathlib.Core.Path.{_≡_, sym, ap}
 use borrow.Author.Needs.{needs}
 use Rattle.table.specs.declared.Party.{Party}

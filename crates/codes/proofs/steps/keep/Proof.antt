@@ -1,4 +1,4 @@
--- `sojimu::steps::keep` meets its contract. Assumes nothing.
+-- `codes::steps::keep` meets its contract. Assumes nothing.
 use mathlib.Core.Path.{sym, _∙_}
 use borrow.Author.Needs.{needs}
 use Rattle.conversation.specs.Step.{told}

@@ -1,4 +1,4 @@
--- `sojimu::steps::party_of` meets its contract. Assumes nothing.
+-- `codes::steps::party_of` meets its contract. Assumes nothing.
 use mathlib.Core.Path.{_≡_, ap}
 use native.Mathlib.Omega.{arith}
 use Rattle.codes.specs.Codes.{code-side}

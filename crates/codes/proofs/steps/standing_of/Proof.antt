@@ -1,4 +1,4 @@
--- `sojimu::steps::standing_of` meets its contract. Assumes nothing.
+-- `codes::steps::standing_of` meets its contract. Assumes nothing.
 use mathlib.Core.Path.{_≡_, refl}
 use Prim.Native.Nat.{ℕ, zero, suc}
 use borrow.Author.Needs.{needs}

@@ -1,4 +1,4 @@
--- `sojimu::steps::state_of` meets its contract. Assumes nothing.
+-- `codes::steps::state_of` meets its contract. Assumes nothing.
 use borrow.Author.Needs.{needs}
 use Rattle.codes.proofs.steps.state_of.Statement.{statement}
 use Rattle.codes.proofs.steps.state_of.Tie as tie

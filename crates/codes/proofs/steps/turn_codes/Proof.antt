@@ -1,4 +1,4 @@
--- `sojimu::steps::turn_codes` meets its contract. Assumes nothing.
+-- `codes::steps::turn_codes` meets its contract. Assumes nothing.
 use borrow.Author.Needs.{needs}
 use Rattle.conversation.specs.Due.{turn-answer}
 use Rattle.codes.proofs.steps.turn_codes.Statement.{statement}

@@ -1,4 +1,4 @@
--- `sojimu::steps::verdict_codes` meets its contract. Assumes nothing.
+-- `codes::steps::verdict_codes` meets its contract. Assumes nothing.
 use borrow.Author.Needs.{needs}
 use Rattle.conversation.specs.Step.{told}
 use Rattle.codes.proofs.steps.verdict_codes.Statement.{statement}

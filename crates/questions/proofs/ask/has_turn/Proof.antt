@@ -1,4 +1,4 @@
--- `monitor::ask::has_turn` meets its contract. Assumes nothing.
+-- `questions::ask::has_turn` meets its contract. Assumes nothing.
 use mathlib.Core.Path.{_≡_, refl}
 use Prim.Native.Nat.{ℕ, zero, suc}
 use native.Mathlib.Omega.{arith}

@@ -1,4 +1,4 @@
--- `monitor::ask::is_running` meets its contract. Assumes nothing.
+-- `questions::ask::is_running` meets its contract. Assumes nothing.
 use borrow.Author.Needs.{needs}
 use Rattle.conversation.specs.Step.{is-running}
 use Rattle.questions.proofs.ask.is_running.Statement.{statement}

@@ -1,4 +1,4 @@
--- `monitor::ask::may_speak` meets its contract. Assumes nothing.
+-- `questions::ask::may_speak` meets its contract. Assumes nothing.
 use mathlib.Core.Path.{_≡_, refl, sym, _∙_}
 use mathlib.Core.Bool.{Bool, true, false, _||_}
 use borrow.Author.Needs.{needs}

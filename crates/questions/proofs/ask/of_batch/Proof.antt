@@ -1,4 +1,4 @@
--- `monitor::ask::of_batch` meets its contract: one law for each return. Assumes nothing.
+-- `questions::ask::of_batch` meets its contract: one law for each return. Assumes nothing.
 use mathlib.Core.Path.{_≡_, sym, _∙_}
 use borrow.Author.Needs.{needs}
 use mathlib.Core.Bool.{true}

@@ -1,4 +1,4 @@
--- `monitor::ask::of_message` meets its contract: one law for each return. Assumes nothing.
+-- `questions::ask::of_message` meets its contract: one law for each return. Assumes nothing.
 use mathlib.Core.Path.{sym, _∙_}
 use borrow.Author.Needs.{needs}
 use borrow.Author.Tests.{not-true, not-false}

@@ -1,4 +1,4 @@
--- `monitor::counts::add_up` meets its contract. Assumes nothing.
+-- `questions::counts::add_up` meets its contract. Assumes nothing.
 use mathlib.Core.Path.{_≡_, refl, subst, sym}
 use mathlib.Core.Bool.{true}
 use Prim.Native.Nat.{ℕ, _-_, _≤_, _<_}

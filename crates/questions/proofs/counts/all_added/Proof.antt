@@ -1,4 +1,4 @@
--- `monitor::counts::all_added` meets its contract. Assumes nothing.
+-- `questions::counts::all_added` meets its contract. Assumes nothing.
 use mathlib.Core.Path.{_≡_, refl, sym}
 use mathlib.Core.Logic.{⊎-elim}
 use mathlib.Core.Bool.{true}

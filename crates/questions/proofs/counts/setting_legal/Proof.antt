@@ -1,4 +1,4 @@
--- `monitor::counts::setting_legal` meets its contract. Assumes nothing.
+-- `questions::counts::setting_legal` meets its contract. Assumes nothing.
 use mathlib.Core.Path.{sym}
 use native.Mathlib.Omega.{arith}
 use borrow.Author.Tests.{lt-leb, le-leb}

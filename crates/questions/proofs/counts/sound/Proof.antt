@@ -1,4 +1,4 @@
--- `monitor::counts::sound` meets its contract. Assumes nothing.
+-- `questions::counts::sound` meets its contract. Assumes nothing.
 use mathlib.Core.Path.{sym, ap, _∙_}
 use borrow.Author.Needs.{needs}
 use borrow.Author.Tests.{not-true, not-false}

@@ -1,4 +1,4 @@
--- `monitor::warning::difference` meets its contract. Assumes nothing.
+-- `questions::warning::difference` meets its contract. Assumes nothing.
 use borrow.Author.Needs.{needs}
 use Rattle.conversation.specs.Warning.{difference}
 use Rattle.questions.proofs.warning.difference.Statement.{statement}

@@ -1,4 +1,4 @@
--- `monitor::warning::estimated` meets its contract. Assumes nothing.
+-- `questions::warning::estimated` meets its contract. Assumes nothing.
 use mathlib.Core.Path.{sym, ap}
 use Prim.Native.Nat.{_+_, _*_}
 use native.Mathlib.Nat.{div-le-self}

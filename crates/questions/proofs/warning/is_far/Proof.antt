@@ -1,4 +1,4 @@
--- `monitor::warning::is_far` meets its contract. Assumes nothing.
+-- `questions::warning::is_far` meets its contract. Assumes nothing.
 use mathlib.Core.Path.{sym, ap, _∙_}
 use Prim.Native.Nat.{_-_, _*_}
 use native.Mathlib.Nat.{mul-le-mul}

@@ -1,4 +1,4 @@
--- `monitor::warning::of_branch` meets its contract. Assumes nothing.
+-- `questions::warning::of_branch` meets its contract. Assumes nothing.
 use mathlib.Core.Path.{_≡_, sym, _∙_}
 use mathlib.Core.Bool.{true}
 use Prim.Native.Nat.{_≤_}

@@ -1,4 +1,4 @@
--- `monitor::warning::sender` meets its contract. Assumes nothing.
+-- `questions::warning::sender` meets its contract. Assumes nothing.
 use mathlib.Core.Path.{sym}
 use Rattle.table.specs.Table.{speaker}
 use Rattle.table.specs.View.{sort-of}
