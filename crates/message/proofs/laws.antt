@@ -1,5 +1,6 @@
 -- Laws, each file named for the definition that it is about.
 pub mod BranchMessage
+pub mod Broken
 pub mod HasLabel
 pub mod Judge
 pub mod Layout

@@ -1,8 +1,11 @@
 -- Laws, each file named for the definition that it is about.
 pub mod Alike
 pub mod Classes
+pub mod Placed
 pub mod Places
 pub mod Prints
+pub mod Spellable
 pub mod Speller
 pub mod Spelling
+pub mod Spelt
 pub mod StandsAt

@@ -1,4 +1,5 @@
 -- Laws, each file named for the definition that it is about.
+pub mod DualOf
 pub mod LegalField
 pub mod LegalLabel
 pub mod Lists

@@ -4,7 +4,9 @@ pub mod Close
 pub mod Closed
 pub mod DualType
 pub mod Front
+pub mod Headline
 pub mod Monitor
 pub mod Numbering
 pub mod ProtocolRules
 pub mod StandsFor
+pub mod TextRules

@@ -15,7 +15,7 @@ use Rattle.conversation.specs.declared.State.{State}
 use Rattle.conversation.specs.Step.{refused}
 use Rattle.conversation.specs.Batch.{batch-questions, begun}
 use Rattle.conversation.specs.Counts.{Counts, counts-sound, counted-batch}
-use Rattle.conversation.proofs.claims.StepsCounted.{batch-away}
+use Rattle.conversation.proofs.laws.CountedBatch.{batch-away}
 use Rattle.codes.specs.declared.batches.Batch as C
 use Rattle.codes.specs.Codes.{standing-code, standing-of, state-of, state-bytes}
 use Rattle.codes.specs.Calls.{stand-for, bytes-for}

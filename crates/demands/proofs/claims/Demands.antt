@@ -19,14 +19,14 @@ use Rattle.grammar.proofs.laws.Unique.{syntax-unique}
 use Rattle.spelling.proofs.claims.ReadExactly.{writes-spelt, read-spelt}
 use Rattle.types.specs.Types.{protocol-rules}
 use Rattle.types.proofs.laws.Agree.{Stands-for, Rules-alike}
-use Rattle.types.proofs.claims.RulesExactly.{text-rules}
-use Rattle.types.proofs.claims.Headline.{type-demand, type-early}
+use Rattle.types.proofs.laws.TextRules.{text-rules}
+use Rattle.types.proofs.laws.Headline.{type-demand, type-early}
 use Rattle.conversation.specs.Conversation.{Event}
 use Rattle.conversation.proofs.claims.BatchesWatched.{batches-watched}
 use Rattle.machine.specs.Machine.{Move, Safe, Unsafe, Shortest}
 use Rattle.machine.specs.Answer.{Answer, refused, fits, fails, fit-questions, Demand}
 use Rattle.machine.proofs.claims.DemandThree.{demand-three}
-use Rattle.machine.proofs.claims.EditionUnseen.{safe-back}
+use Rattle.machine.proofs.laws.Edition.{safe-back}
 use Rattle.machine.proofs.claims.FitFewest.{fit-fewest}
 use Rattle.together.proofs.claims.FitsUnblamed.{fits-unblamed}
 use Rattle.report.proofs.claims.ReportsFit.{reports-fit, reports-no-fit, reports-fewest}

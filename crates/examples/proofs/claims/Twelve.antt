@@ -26,7 +26,8 @@ use Rattle.machine.specs.Fit.{both-are, right, Reachable, Fits, pairs, Count, s
 use Rattle.machine.specs.Answer.{Answer, refused, fits, fails, fit-questions, Answered}
 use Rattle.machine.proofs.laws.Safe.{fits-safe}
 use Rattle.machine.proofs.claims.OneCount.{one-count}
-use Rattle.machine.proofs.claims.FitsItself.{fits-itself, reachable-itself}
+use Rattle.machine.proofs.claims.FitsItself.{fits-itself}
+use Rattle.machine.proofs.laws.Itself.{reachable-itself}
 use Rattle.examples.specs.Twelve.{P, E, ask, Answers, Twelve}
 use Rattle.table.specs.Table as T
 use Rattle.examples.proofs.laws.StepsOfP.{asks-100, asks-101, ok-first}

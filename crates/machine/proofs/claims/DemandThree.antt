@@ -1,54 +1,18 @@
--- Demand 3: a description fits exactly when no list of moves ends badly, and an answer that is `Answered` says which; under either edition.
+-- Demand 3: refused, fits and fails, each exactly when; under either edition.
 -- Assumes nothing.
-use mathlib.Core.Path.{_≡_, refl, sym, ap, _∙_, subst}
-use mathlib.Core.Logic.{⊎-elim, _↔_}
+use mathlib.Core.Path.{refl, sym, ap, _∙_, subst}
 use mathlib.Core.List.{List}
-use mathlib.Core.Option.{Option}
 use Prim.Native.Nat.{ℕ}
-use native.Mathlib.Omega.{arith}
 use Rattle.table.specs.View.{view}
-use Rattle.table.specs.Table.{Table}
 use Rattle.message.specs.Rules.{table-rules}
 use Rattle.machine.specs.Machine.{Move, Safe, Unsafe}
-use Rattle.machine.specs.Fit.{right, Fits, Count, shown-moves}
+use Rattle.machine.specs.Fit.{Count, shown-moves}
 use Rattle.machine.specs.Answer.{Answer, refused, fits, fails, Answered, SafeTables, DemandThree, PassesUnderEither}
-use Rattle.table.proofs.laws.Lists.{never, decided}
-use Rattle.machine.proofs.laws.Branch.{Sound}
-use Rattle.machine.proofs.laws.Reachable.{reachable-reached}
+use Rattle.table.proofs.laws.Lists.{never}
 use Rattle.machine.proofs.laws.Safe.{fits-safe}
-use Rattle.machine.proofs.laws.Failing.{wrong-ends}
 use Rattle.machine.proofs.claims.OneCount.{one-count}
 use Rattle.machine.proofs.claims.EditionUnseen.{edition-unseen}
-
--- on the machine's side
-pub fits-exactly : (d p : Table) → Sound d → Sound p → Fits d p ↔ Safe (table-rules d) (table-rules p)
-unfolding Fits Safe Unsafe
-fits-exactly d p sd sp = (
-  λ f vs w. fits-safe d p f vs,
-  λ g i j r.
-      ⊎-elim (λ e. e)
-      (λ e. let x = wrong-ends d p sd sp (reachable-reached d p r .1) e in never (x .2) (g (x .0) (x .1)))
-      (decided (right d p i j)),
-)
-
--- ---- the three cases of an answer differ
-
-refused-fits : {X : Type 0} {q c : ℕ} → refused q ≡ fits c → X
-refused-fits e = let z : _≡_ {A = ℕ} 0 1 = cc in absurd (omega arith)
-
-pub refused-fails : {X : Type 0} {q K : ℕ} {h : Option ℕ} → refused q ≡ fails K h → X
-refused-fails e = let z : _≡_ {A = ℕ} 0 1 = cc in absurd (omega arith)
-
-pub fits-fails : {X : Type 0} {c K : ℕ} {h : Option ℕ} → fits c ≡ fails K h → X
-fits-fails e = let z : _≡_ {A = ℕ} 0 1 = cc in absurd (omega arith)
-
-same-question : {q r : ℕ} → refused q ≡ refused r → q ≡ r
-same-question e = cc
-
-same-count : {c e : ℕ} → fits c ≡ fits e → c ≡ e
-same-count e = cc
-
--- ---- demand 3
+use Rattle.machine.proofs.laws.Answer.{fits-fails, refused-fails, refused-fits, same-count, same-question}
 
 pub demand-three : DemandThree
 unfolding Answered Safe Unsafe

@@ -18,7 +18,7 @@ use Rattle.machine.specs.Fit.{both-are, right, Reachable, Fits, Count, o
 use Rattle.machine.specs.Answer.{Answer, refused, fits, fails, fit-questions, Answered, FitEditionUnseen, SafeEditionUnseen, FitSharesUnseen, SafeSharesUnseen}
 use Rattle.table.proofs.laws.Lists.{both}
 use Rattle.machine.proofs.laws.Failing.{shown-length}
-use Rattle.machine.proofs.claims.EditionUnseen.{all-on, bad-on, forward-move, fewest-back, safe-back}
+use Rattle.machine.proofs.laws.Edition.{all-on, bad-on, forward-move, fewest-back, safe-back}
 
 -- a table with other shares, under an edition
 abbrev with : Table → List ℕ → ℕ → Table

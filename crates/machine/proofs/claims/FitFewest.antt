@@ -12,7 +12,7 @@ use Rattle.machine.specs.Fit.{shown-moves}
 use Rattle.machine.specs.Answer.{Answer, refused, fits, fails, Failed, Answered, FitFewest}
 use Rattle.table.proofs.laws.Lists.{never}
 use Rattle.machine.proofs.laws.Safe.{fits-safe}
-use Rattle.machine.proofs.claims.DemandThree.{refused-fails, fits-fails}
+use Rattle.machine.proofs.laws.Answer.{refused-fails, fits-fails}
 
 -- shortest failures have one number of moves
 one-length : {D P : Type 0} {x : Rules D} {y : Rules P} {K L : ℕ} {vs ws : List Move} → Shortest x y K vs → Shortest x y L ws → K ≡ L

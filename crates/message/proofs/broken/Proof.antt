@@ -4,7 +4,7 @@ use lib.Dec.{eqb}
 use borrow.Author.Needs.{needs}
 use borrow.Author.Tests.{not-true, not-false}
 use Rattle.message.specs.Message.{front-of}
-use Rattle.message.proofs.claims.NeverMended.{broken-short, broken-closed, broken-fields}
+use Rattle.message.proofs.laws.Broken.{broken-short, broken-closed, broken-fields}
 use Rattle.message.proofs.broken.Statement.{statement}
 use Rattle.message.proofs.broken.Tie as tie
 

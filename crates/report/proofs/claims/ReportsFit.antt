@@ -18,7 +18,7 @@ use Rattle.machine.specs.Machine.{run, Safe, Unsafe}
 use Rattle.machine.specs.Fit.{shown-moves}
 use Rattle.machine.proofs.laws.Branch.{Sound}
 use Rattle.fit.proofs.laws.CoveredBy.{view-sound}
-use Rattle.machine.proofs.claims.DemandThree.{fits-exactly}
+use Rattle.machine.proofs.laws.Answer.{fits-exactly}
 use Rattle.machine.proofs.laws.Failing.{shown-length}
 use Rattle.report.specs.Report.{line, fit, no-fit, Compared, says-fit, says-no-fit, ReportsFit, ReportsNoFit, ShowsFewest, ReportsFewest}
 

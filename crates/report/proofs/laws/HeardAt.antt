@@ -24,7 +24,7 @@ use Rattle.conversation.specs.Counts.{Counts, counts-sound, legal-setting, star
 use Rattle.conversation.proofs.laws.Step.{turn-its}
 use Rattle.conversation.proofs.laws.Counts.{fresh-sound}
 use Rattle.together.specs.Together.{running-at}
-use Rattle.together.proofs.claims.MoveIsStep.{asks, turn, judged-some, judged-none}
+use Rattle.together.proofs.laws.Together.{asks, turn, judged-some, judged-none}
 use Rattle.report.specs.inner.Playing.{InTurn}
 
 clash : {X : Type 0} → _≡_ {A = ℕ} 0 1 → X

@@ -30,10 +30,11 @@ use Rattle.spelling.specs.TextTheorems.{WellFormed}
 use Rattle.spelling.specs.Refusals.{At, upto-before, upto-here, RefusedMeans, TwoMeans, ThreeMeans}
 use Rattle.spelling.proofs.laws.StandsAt.{next-here, past-here, found}
 use Rattle.spelling.proofs.claims.SpeltScanned.{spelt-scanned}
-use Rattle.spelling.proofs.claims.ReadExactly.{text-formed}
-use Rattle.spelling.proofs.claims.ReadPlaced.{upto-bad, placed-scanned, read-placed}
+use Rattle.spelling.proofs.laws.Spelt.{text-formed}
+use Rattle.spelling.proofs.laws.Placed.{upto-bad, placed-scanned}
+use Rattle.spelling.proofs.claims.ReadPlaced.{read-placed}
 use Rattle.spelling.proofs.laws.Speller.{spell-spelt}
-use Rattle.spelling.proofs.claims.SpellableExactly.{spells-writable, Written, text-written}
+use Rattle.spelling.proofs.laws.Spellable.{spells-writable, Written, text-written}
 use Rattle.spelling.proofs.laws.Alike.{Stop, stop}
 use Rattle.spelling.proofs.laws.Places.{at-once}
 

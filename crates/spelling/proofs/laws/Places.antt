@@ -9,7 +9,7 @@ use Rattle.grammar.proofs.laws.TokenAt.{onward}
 use Rattle.spelling.specs.Places.{Placed, ran-out, malformed, a-blank, a-token}
 use Rattle.spelling.specs.Refusals.{At}
 use Rattle.spelling.proofs.laws.StandsAt.{next-here, past-here, found}
-use Rattle.spelling.proofs.claims.ReadPlaced.{placed-scanned}
+use Rattle.spelling.proofs.laws.Placed.{placed-scanned}
 
 -- each stands at p or later, and after the one before it
 abbrev Rising : ℕ → List Token → Type 0

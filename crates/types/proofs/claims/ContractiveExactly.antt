@@ -17,7 +17,7 @@ use Rattle.types.specs.Contractive.{Unfolds, unfolds, Reaches, here, pas
 use Rattle.types.proofs.laws.Close.{free-br, Closed, closed-also, closed-unfolded}
 use Rattle.types.proofs.laws.Front.{closed-no-name, recs-unfolded, guarded-unfolded}
 use Rattle.types.proofs.laws.Closed.{bound-closed}
-use Rattle.types.proofs.claims.RulesExactly.{proper}
+use Rattle.types.proofs.laws.TextRules.{proper}
 
 -- ---- guarded recs
 

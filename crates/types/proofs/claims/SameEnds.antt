@@ -17,7 +17,7 @@ use Rattle.types.specs.Types.{opened, sort-opened, protocol-rules, flip}
 use Rattle.types.specs.Monitor.{done, verdict, synth, Runs, rest}
 use Rattle.types.specs.Verdicts.{SameEnds}
 use Rattle.types.proofs.laws.ProtocolRules.{Proper, is-stop, proper-leads}
-use Rattle.types.proofs.claims.RulesExactly.{proper, end-or-choice}
+use Rattle.types.proofs.laws.TextRules.{proper, end-or-choice}
 use Rattle.types.proofs.laws.Monitor.{course, runs-opened, goes-on, onward-is, led-on, led-nowhere}
 
 verdict-done : {X : Type 0} {s : Party} → verdict s ≡ done → X

@@ -31,8 +31,8 @@ use Rattle.types.specs.Types.{opened, protocol-rules, flip}
 use Rattle.types.specs.Monitor.{Mon, verdict, synth, Runs, rest as at-rest}
 use Rattle.types.specs.Verdicts.{heard-said, passed-on, for-early, in-turn, FirstInTurn, SameVerdicts, SameTold, blamed-by, ends-in-blame, proper-sent, SameBreaks}
 use Rattle.types.proofs.laws.ProtocolRules.{Proper, next-onward, next-turn, proper-next}
-use Rattle.types.proofs.claims.RulesExactly.{proper, edition-is}
-use Rattle.types.proofs.claims.Headline.{type-demand}
+use Rattle.types.proofs.laws.TextRules.{proper, edition-is}
+use Rattle.types.proofs.laws.Headline.{type-demand}
 use Rattle.types.proofs.laws.Monitor.{Midway, Begun, midway, broke, on, course, goes-on, breaks, onward-is, verdict-eq, led-on, led-nowhere}
 
 -- ---- who is blamed

@@ -9,7 +9,7 @@ use Rattle.grammar.specs.Grammar.{Ty, Br, way-sort, sorts, sorts-br, Scope, not
 use Rattle.grammar.specs.Filled.{Reading, filled}
 use Rattle.grammar.proofs.laws.Reads.{read-filled}
 use Rattle.types.specs.Straight.{Straight, at-end, at-name, before-name, in-rec, in-choice, StraightBr, in-last, in-also, StraightSame}
-use Rattle.types.proofs.claims.RulesExactly.{legal}
+use Rattle.types.proofs.laws.TextRules.{legal}
 
 mutual
   same-sorts : {t u : Ty} → Straight t u → sorts u ≡ sorts t

@@ -1,0 +1,2 @@
+-- Laws, each file named for the definition that it is about.
+pub mod Together
