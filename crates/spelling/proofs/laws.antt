@@ -7,5 +7,5 @@ pub mod Prints
 pub mod Spellable
 pub mod Speller
 pub mod Spelling
-pub mod Spelt
 pub mod StandsAt
+pub mod WellFormed

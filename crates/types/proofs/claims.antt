@@ -1,7 +1,6 @@
 -- The proofs of what specs/ states, each file named for a statement.
 pub mod ContractiveExactly
 pub mod Headline
-pub mod ProtocolP
 pub mod RulesExactly
 pub mod SameComposed
 pub mod SameEnds

@@ -1,4 +1,4 @@
--- A batch over codes: what the parts of the call give, and over the codes of a state the monitor's own batch.
+-- A batch over codes: whether two bytes stand for a state, those of the state after it, and a batch that is refused.
 -- Assumes nothing.
 use mathlib.Core.Path.{_≡_, refl, sym, ap, ap₂, _∙_}
 use mathlib.Core.Bool.{Bool, true, false, cond}

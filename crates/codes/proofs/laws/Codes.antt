@@ -1,4 +1,4 @@
--- Over the codes of a state and a side, a step is the monitor's own: the same verdict, state, counts and output, in codes.
+-- Codes of sides, standings and states are those of one only; and the bytes of a state after a step.
 -- Assumes nothing.
 use mathlib.Core.Path.{_≡_, refl, ap}
 use mathlib.Core.Bool.{Bool, true, false, cond}

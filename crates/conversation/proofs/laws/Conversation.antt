@@ -1,5 +1,5 @@
--- Demand 2 over whole conversations. The program's state is what verdicts and type say of the messages so far (`Stands`); at
--- such a state each way of a step is right, and leaves such a state.
+-- A whole conversation: the program's state is what verdicts and type say of the messages so far (`Stands`); at such a state each way of a step is right,
+-- and leaves such a state.
 -- Assumes nothing.
 use mathlib.Core.Path.{_≡_, refl, sym, ap, ap₂, subst, _∙_}
 use mathlib.Core.Bool.{Bool, true, false, _&&_, _||_, cond}

@@ -1,4 +1,4 @@
--- Warnings and estimates: the estimate is the nearest whole, no number of the comparison is too large, and every branch has a sender.
+-- Warnings and estimates: how large the two sides of the comparison can be, what the questions tell, and the call question by question.
 -- Assumes nothing.
 use mathlib.Core.Path.{_≡_, refl, ap}
 use mathlib.Core.Bool.{Bool, true, false, _&&_, cond}

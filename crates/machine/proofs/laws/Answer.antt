@@ -1,4 +1,4 @@
--- Demand 3: a description fits exactly when no list of moves ends badly, and an answer that is `Answered` says which; under either edition.
+-- Answers that are `Answered`: a description fits exactly when no list of moves ends badly, and no two answers go together.
 -- Assumes nothing.
 use mathlib.Core.Path.{_≡_}
 use mathlib.Core.Logic.{⊎-elim, _↔_}
@@ -43,5 +43,3 @@ same-question e = cc
 
 pub same-count : {c e : ℕ} → fits c ≡ fits e → c ≡ e
 same-count e = cc
-
--- ---- demand 3

@@ -1,5 +1,5 @@
--- What a step's parts give together: of a code that is a side's, and of one that is no side's, which is refused by 9, on the counts, too, 10, 11
--- or 12.
+-- What the parts of a call give together: of a step by a code that is a side's, and by one that is no side's, which is refused by 9, on the counts, too,
+-- 10, 11 or 12; and of a batch.
 -- Assumes nothing.
 use mathlib.Core.Path.{_≡_, refl, sym, ap, _∙_}
 use mathlib.Core.Logic.{⊎-elim}

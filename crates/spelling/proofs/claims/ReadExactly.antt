@@ -6,7 +6,7 @@ use Rattle.grammar.proofs.laws.Unique.{text-once}
 use Rattle.grammar.proofs.laws.Reads.{read-exactly, read-seen, read-sound}
 use Rattle.spelling.specs.TextTheorems.{SpeltOnce, WritesSpelt, ProtocolOnce, ReadExactly, ReadSeen, ReadSound}
 use Rattle.spelling.proofs.claims.SpeltScanned.{spelt-scanned}
-use Rattle.spelling.proofs.laws.Spelt.{text-formed}
+use Rattle.spelling.proofs.laws.WellFormed.{text-formed}
 
 -- A text has one spelling at most.
 pub spelt-once : SpeltOnce

@@ -30,7 +30,7 @@ use Rattle.spelling.specs.TextTheorems.{WellFormed}
 use Rattle.spelling.specs.Refusals.{At, upto-before, upto-here, RefusedMeans, TwoMeans, ThreeMeans}
 use Rattle.spelling.proofs.laws.StandsAt.{next-here, past-here, found}
 use Rattle.spelling.proofs.claims.SpeltScanned.{spelt-scanned}
-use Rattle.spelling.proofs.laws.Spelt.{text-formed}
+use Rattle.spelling.proofs.laws.WellFormed.{text-formed}
 use Rattle.spelling.proofs.laws.Placed.{upto-bad, placed-scanned}
 use Rattle.spelling.proofs.claims.ReadPlaced.{read-placed}
 use Rattle.spelling.proofs.laws.Speller.{spell-spelt}

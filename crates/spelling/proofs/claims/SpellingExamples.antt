@@ -15,7 +15,7 @@ use Rattle.spelling.specs.Spelling.{Spelt}
 use Rattle.spelling.specs.TextTheorems.{WellFormed}
 use Rattle.spelling.specs.SpellingExamples.{plus, unopened, P-type, two-shares, Examples}
 use Rattle.spelling.proofs.claims.SpeltScanned.{spelt-scanned}
-use Rattle.spelling.proofs.laws.Spelt.{text-formed}
+use Rattle.spelling.proofs.laws.WellFormed.{text-formed}
 
 -- a text whose first token is malformed spells nothing, nor one whose second is
 nothing-spelt : (s : List ℕ) (us ts : List Tok) → map (tok-of s) (tokens s) ≡ sign 1 ∷ us → Spelt s ts → ⊥

@@ -97,5 +97,3 @@ pub text-written : (p : Protocol) → Written (print-text p) → Spellable p
 text-written p w =
     let a = opening-written (p .opening) _ w in
     (a .0, print-written (p .type) (sign 0 ∷ []) (a .1) .0)
-
--- ---- the theorems

@@ -324,5 +324,3 @@ pub spelt-formed : {s : List ℕ} {ts : List Tok} → Spelt s ts → WellFormed 
 spelt-formed ran-out = ((λ e. omega (arith, ap sign-in e)), tt)
 spelt-formed (a-blank i sp) = spelt-formed sp
 spelt-formed (a-token i o sp) = (spells-formed i, spelt-formed sp)
-
--- ---- the law

@@ -1,4 +1,4 @@
--- The dual: of the view it is document 01's, and the dual of the dual is the table itself.
+-- The dual of the words, sort by sort: what turning them leaves, what it is of the view, and that turned twice they are as they were.
 -- Assumes nothing.
 use mathlib.Core.Path.{_≡_, refl, sym, ap, ap₂, _∙_}
 use mathlib.Core.Bool.{Bool, true, not, _&&_, _||_}

@@ -1,4 +1,4 @@
--- A text is read exactly when it spells a legal protocol. (Document 01, "Protocol text".)
+-- No token that a protocol is written with is malformed.
 -- Assumes nothing.
 use mathlib.Core.Path.{ap}
 use native.Mathlib.Omega.{arith}
@@ -9,7 +9,6 @@ use Rattle.grammar.proofs.laws.TokOf.{tag, sign-in}
 use Rattle.spelling.specs.TextTheorems.{WellFormed}
 use Rattle.spelling.proofs.laws.Prints.{fixed, text-holds, of-number, of-all}
 
--- no token that a protocol is written with is malformed
 pub text-formed : (p : Protocol) → WellFormed (print-text p)
 text-formed p =
     text-holds All WellFormed (λ x ts p q. ((λ e. omega (arith, ap tag e)), q)) (λ n ts p q. ((λ e. omega (arith, ap tag e)), q))
@@ -18,5 +17,3 @@ text-formed p =
   where
     All : Tok → Type 0
     All x = Unit {0}
-
--- ---- the theorems
