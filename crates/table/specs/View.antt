@@ -1,6 +1,7 @@
 -- The program's table, one list of 32-bit words, seen as a table of lists; and question 9 of document 01.
 -- The layout is told at the constants of src/lib.rt: where each run of words begins is said there, and here in the functions `..-at`; a table
--- that is read is laid out in the same order (grammar/specs/Filled.antt). Only the first `states` and `branches` entries are seen, of branch k the first `fields` at 4 * k.
+-- that is read is laid out in the same order (grammar/specs/Filled.antt). Only the first `states` and `branches` entries are seen, of branch k the
+-- first `fields` at 4 * k.
 -- Assumes nothing.
 use mathlib.Core.Path.{_≡_}
 use Prim.Native.Nat.{ℕ, zero, suc, _+_, _*_, _/_, _%_}

@@ -1,4 +1,6 @@
--- What is lent to a step and to a batch, and the frame of a proof by hand of a function that lends it on: the rows of the table and of the counts, with their slots in a signature; what a reference to each owns; the machine values of a state; and that a function meets its contract where its MIR is walked, over tables in which the one function that it calls meets its own (`by-walk`).
+-- What is lent to a step and to a batch, and the frame of a proof by hand of a function that lends it on: the rows of the table and of the counts,
+-- with their slots in a signature; what a reference to each owns; the machine values of a state; and that a function meets its contract where its MIR
+-- is walked, over tables in which the one function that it calls meets its own (`by-walk`).
 -- Assumes nothing.
 use mathlib.Core.Path.{_≡_}
 use mathlib.Core.List.{List}

@@ -1,5 +1,7 @@
--- `cases::step::advanced` meets its contract: a walk of its MIR, by hand. A lifetime is made for the call, the local state is lent for it, `monitor::advance` is called, the lifetime is ended, and the state is taken back at its last value and goes into the result.
--- All that the proof knows of `advance` is that it meets its contract. The counts and `out` go to it, each at its own lifetime, share and name, for good; of the table and of `message`, which are shared, one copy goes and one is kept for the exit.
+-- `cases::step::advanced` meets its contract: a walk of its MIR, by hand. A lifetime is made for the call, the local state is lent for it,
+-- `monitor::advance` is called, the lifetime is ended, and the state is taken back at its last value and goes into the result.
+-- All that the proof knows of `advance` is that it meets its contract. The counts and `out` go to it, each at its own lifetime, share and name, for
+-- good; of the table and of `message`, which are shared, one copy goes and one is kept for the exit.
 -- Every type held by value owns only facts, so what it owns is made anew where it is asked (`owned`). Assumes nothing.
 use mathlib.Core.Path.{_≡_, refl, ap, subst}
 use mathlib.Core.List.{[], _∷_, List}

@@ -1,5 +1,7 @@
--- `monitor::batch::advance` meets its contract: a walk of its MIR, by hand, as that of `monitor::advance` is. The borrow of the state is opened, the state is copied out and passed to `batch` with the rest, the state of the answer is stored over the old one, and the borrow is closed at it.
--- All that the proof knows of `batch` is that it meets its contract. The counts and each output go to it at their own lifetime, share and name, for good; of the table and of either side's bytes, which are shared, one copy goes and one is kept for the exit; a token of each lifetime comes back.
+-- `monitor::batch::advance` meets its contract: a walk of its MIR, by hand, as that of `monitor::advance` is. The borrow of the state is opened, the
+-- state is copied out and passed to `batch` with the rest, the state of the answer is stored over the old one, and the borrow is closed at it.
+-- All that the proof knows of `batch` is that it meets its contract. The counts and each output go to it at their own lifetime, share and name, for
+-- good; of the table and of either side's bytes, which are shared, one copy goes and one is kept for the exit; a token of each lifetime comes back.
 -- Every type held by value owns only facts, so what it owns is made anew where it is asked (`owned`). Assumes nothing.
 use mathlib.Core.Path.{_≡_, refl, ap}
 use mathlib.Core.List.{[], _∷_, List}

@@ -1,4 +1,5 @@
--- `monitor::copy::eight` meets its contract: what each step asks follows from what is known at the start, and the lists between the stores are those of `stores`. Assumes nothing.
+-- `monitor::copy::eight` meets its contract: what each step asks follows from what is known at the start, and the lists between the stores are those
+-- of `stores`. Assumes nothing.
 use mathlib.Core.List.{List}
 use Prim.Native.Nat.{ℕ, _+_, _<_}
 use native.Mathlib.Omega.{arith}
