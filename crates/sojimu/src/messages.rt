@@ -27,7 +27,7 @@ pub extern "C" fn sojimu_raw_broken(bytes: &[u8]) -> bool
     message::broken(bytes)
 }
 
-// 13, 14 and 15.
+// 13, 14, 15 and 22.
 #[no_mangle]
 pub extern "C" fn sojimu_raw_refusal(bytes: &[u8]) -> u32
     ensures { λ r. ⌜ r ≡ refusal (now (bytes .entry)) ⌝ }

@@ -6,7 +6,7 @@ ghost use Rattle.report.specs.Report.{Written};
 use grammar::Refusal;
 use table::Table;
 
-// Questions 1 to 8, 19 and 20.
+// Questions 1 to 8, 19, 20 and 23.
 #[no_mangle]
 pub extern "C" fn sojimu_raw_read(text: &[u8], table: &mut Table) -> Refusal
     ensures { λ r. ⌜ given r (now (table .exit)) ≡ reads (now (text .entry)) ⌝ }
