@@ -13,3 +13,4 @@ pub mod SharesUnseen
 pub mod StepsCounted
 pub mod StopsAtText
 pub mod VerdictOnce
+pub mod WarningExactly
