@@ -66,7 +66,7 @@ extern "C" {
 /* ---- constants */
 
 /* This header's version: raised whenever a struct or a call changes. */
-#define SOJIMU_VERSION UINT32_C(5)
+#define SOJIMU_VERSION UINT32_C(6)
 
 /* Limits. A message has at most 285 bytes, a list that question 17 never refuses 1,024 entries, a buffer that holds every report
  * 16,384 bytes. As soon as SOJIMU_FRONT bytes are there, a message announces its length. */
@@ -84,8 +84,8 @@ enum {
 /* The stack in bytes that a call of the library needs at most, beside the place for a struct that it gives back, which is its
  * caller's, and what memcpy and memset need. */
 enum {
-    SOJIMU_STACK_READ = 16384,
-    SOJIMU_STACK_REPORT = 57344,
+    SOJIMU_STACK_READ = 36864,
+    SOJIMU_STACK_REPORT = 77824,
     SOJIMU_STACK_DUAL = 12288,
     SOJIMU_STACK_FIT = 6144,
     SOJIMU_STACK_TABLE = 1280, /* every other call that takes a table, a step among them */
@@ -145,11 +145,6 @@ struct sojimu_table {
 struct sojimu_reading {
     uint32_t question, at;
     struct sojimu_table table;
-};
-
-/* The same without the table, which is given back in the place that is passed for it. */
-struct sojimu_told {
-    uint32_t question, at;
 };
 
 /* The dual: question 0 and the table, or 9 and the empty table. */
@@ -235,7 +230,6 @@ SOJIMU_HOLDS(SOJIMU_AT(table, kind, 4 * 674) && SOJIMU_AT(table, low, 4 * 1186) 
 SOJIMU_HOLDS(SOJIMU_AT(table, share, 4 * 2210) && SOJIMU_AT(table, edition, 4 * 2338) && SOJIMU_AT(table, reserved, 4 * 2339));
 SOJIMU_HOLDS(sizeof(struct sojimu_reading) == 9368 && SOJIMU_AT(reading, question, 0) && SOJIMU_AT(reading, at, 4));
 SOJIMU_HOLDS(SOJIMU_AT(reading, table, 8));
-SOJIMU_HOLDS(sizeof(struct sojimu_told) == 8 && SOJIMU_AT(told, question, 0) && SOJIMU_AT(told, at, 4));
 SOJIMU_HOLDS(sizeof(struct sojimu_turned) == 9364 && SOJIMU_AT(turned, question, 0) && SOJIMU_AT(turned, table, 4));
 SOJIMU_HOLDS(sizeof(struct sojimu_head) == 8 && SOJIMU_AT(head, question, 0) && SOJIMU_AT(head, length, 4));
 SOJIMU_HOLDS(sizeof(struct sojimu_state) == 324 && SOJIMU_AT(state, position, 0) && SOJIMU_AT(state, standing, 1));
@@ -261,7 +255,7 @@ SOJIMU_HOLDS(SOJIMU_AT(fit, count, 8) && SOJIMU_AT(fit, high, 12));
  * These alone take no NULL. A state is lent as its two bytes and its 161 counts. Each has an inline function without `raw` below,
  * where it is explained. */
 
-struct sojimu_told sojimu_raw_read(const uint8_t *text, size_t length, struct sojimu_table *table);
+struct sojimu_reading sojimu_raw_read(const uint8_t *text, size_t length);
 size_t sojimu_raw_report(const uint8_t *protocol, size_t protocol_length, const uint8_t *device, size_t device_length,
                          uint8_t *out, size_t room);
 struct sojimu_head sojimu_raw_front(const uint8_t *bytes, size_t length);
@@ -316,11 +310,7 @@ static inline bool sojimu_matches(void)
 /* Reads a protocol text, which need not end in 0x00. Asks 1, then of each token from the left 2, 3, 23, 4, 5, 6, 19, 7, 8, 20. */
 static inline struct sojimu_reading sojimu_read(const uint8_t *text, size_t length)
 {
-    struct sojimu_reading reading;
-    const struct sojimu_told told = sojimu_raw_read(sojimu_lent(text, length), length, &reading.table);
-    reading.question = told.question;
-    reading.at = told.at;
-    return reading;
+    return sojimu_raw_read(sojimu_lent(text, length), length);
 }
 
 /* The report on a device's text against a protocol's: whether it fits, the fewest moves that show it where it does not, or which

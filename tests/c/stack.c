@@ -95,10 +95,10 @@ static void texts(void)
 {
     static const char *const all[] = {"", "end", P, deep, deeper, recs, largest, other, blanks, "edition 2 end", "edition 3"};
     enum { TEXTS = sizeof all / sizeof all[0] };
-    static struct sojimu_table given;
+    static struct sojimu_reading reading;
     static uint8_t report[SOJIMU_REPORT];
     for (int i = 0; i < TEXTS; i++) {
-        NEEDS(sojimu_raw_read, SOJIMU_STACK_READ, AT(all[i]), strlen(all[i]), AT(&given));
+        NEEDS(sojimu_raw_read, SOJIMU_STACK_READ, AT(&reading), AT(all[i]), strlen(all[i]));
         for (int j = 0; j < TEXTS; j++) {
             NEEDS(sojimu_raw_report, SOJIMU_STACK_REPORT, AT(all[i]), strlen(all[i]), AT(all[j]), strlen(all[j]), AT(report),
                   sizeof report);

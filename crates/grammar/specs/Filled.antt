@@ -6,7 +6,7 @@ use lib.ListN.{length, getD}
 use Rattle.table.specs.View.{Words, empty-table}
 use Rattle.grammar.specs.Token.{word-of}
 use Rattle.grammar.specs.Building.{Built}
-use Rattle.grammar.specs.declared.Refusal.{Refusal}
+use Rattle.grammar.specs.declared.Reading.{Reading}
 use Rattle.table.specs.Table as T
 
 -- xs, filled up with 0 to n entries
@@ -62,11 +62,6 @@ filled t = length (t .sorts) ∷ length (t .branches) ∷ joined (columns t)
 -- ---- what reading comes to, with the table as words
 
 -- a question that got a no, or 0; its place; the table
-pub record Reading : Type 0 where
-  pub question : ℕ
-  pub at : ℕ
-  pub table : Words
-
 abbrev pub came-out : ℕ → ℕ → Words → Reading
 came-out q at t = record { question = q; at = at; table = t }
 
@@ -76,7 +71,3 @@ written a = came-out (a .question) (a .at) (filled (a .table))
 -- a no
 unfoldable pub refused : ℕ → ℕ → Reading
 refused q at = came-out q at empty-table
-
--- of the program: what it answers, and the words in the place that is lent for the table
-abbrev pub given : Refusal → Words → Reading
-given r t = came-out (r .question) (r .at) t

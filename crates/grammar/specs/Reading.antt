@@ -14,7 +14,8 @@ use Rattle.grammar.specs.inner.Scanner.{tokens}
 use Rattle.grammar.specs.Number.{signed-in, offset, in-kind, in-share, in-edition}
 use Rattle.grammar.specs.Grammar.{text-limit, open-most, or-else}
 use Rattle.grammar.specs.Building.{empty-branch, labelled, field-added, aimed, stateless, set-edition, add-state, add-branch, add-share, label-used, choice-right, Built, came, denied}
-use Rattle.grammar.specs.Filled.{Reading, written}
+use Rattle.grammar.specs.Filled.{written}
+use Rattle.grammar.specs.declared.Reading.{Reading}
 use Rattle.grammar.specs.declared.token.Token.{Token}
 use Rattle.table.specs.Table as S
 use Rattle.grammar.specs.Kind as K

@@ -33,17 +33,15 @@ pub fn report(protocol: &[u8], device: &[u8], out: &mut [u8]) -> usize
 fn compose(protocol: &[u8], device: &[u8], out: &mut [u8; 16384]) -> usize
     ensures { λ r. ⌜ Composed (now (protocol .entry)) (now (device .entry)) (now (out .entry)) (now (out .exit)) r ⌝ }
 {
-    let mut p = table::empty();
-    let q = text::read(protocol, &mut p);
-    if q.question != 0 {
-        return write::refused(out, Whose::Protocol, q.question as u16, q.at as u16);
+    let p = text::read(protocol);
+    if p.question != 0 {
+        return write::refused(out, Whose::Protocol, p.question as u16, p.at as u16);
     }
-    let mut d = table::empty();
-    let e = text::read(device, &mut d);
-    if e.question != 0 {
-        return write::refused(out, Whose::Device, e.question as u16, e.at as u16);
+    let d = text::read(device);
+    if d.question != 0 {
+        return write::refused(out, Whose::Device, d.question as u16, d.at as u16);
     }
-    compare(&d, &p, out)
+    compare(&d.table, &p.table, out)
 }
 
 // The report of two tables.

@@ -1,17 +1,15 @@
 // Protocol texts: reading one, and the report of two.
 ghost use mathlib.Core.Path.{_≡_};
-ghost use Rattle.grammar.specs.Filled.{given};
 ghost use Rattle.grammar.specs.Reading.{reads};
 ghost use Rattle.report.specs.Report.{Written};
-use grammar::Refusal;
-use table::Table;
+use grammar::Reading;
 
 // Questions 1 to 8, 19, 20 and 23.
 #[no_mangle]
-pub extern "C" fn sojimu_raw_read(text: &[u8], table: &mut Table) -> Refusal
-    ensures { λ r. ⌜ given r (now (table .exit)) ≡ reads (now (text .entry)) ⌝ }
+pub extern "C" fn sojimu_raw_read(text: &[u8]) -> Reading
+    ensures { λ r. ⌜ r ≡ reads (now (text .entry)) ⌝ }
 {
-    text::read(text, table)
+    text::read(text)
 }
 
 // The report's length; 0 where the buffer does not hold it, and then the buffer is unchanged.

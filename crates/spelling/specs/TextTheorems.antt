@@ -14,8 +14,9 @@ use Rattle.grammar.specs.inner.Scanner.{tokens}
 use Rattle.grammar.specs.Number.{value-of}
 use Rattle.grammar.specs.Grammar.{text-limit, Protocol, Tok, sign, print-text, tok-of, Writes, table-of, Legal}
 use Rattle.grammar.specs.Building.{denied}
-use Rattle.grammar.specs.Filled.{Reading, came-out, filled, padded, written}
+use Rattle.grammar.specs.Filled.{came-out, filled, padded, written}
 use Rattle.grammar.specs.Reading.{start, run-tokens, reads}
+use Rattle.grammar.specs.declared.Reading.{Reading}
 use Rattle.grammar.specs.declared.token.Token.{Token}
 use Rattle.spelling.specs.Spelling.{Name, Spelt}
 use Rattle.spelling.specs.Places.{Placed}

@@ -54,12 +54,12 @@ pub fn read(bytes: &[u8], tally: &mut Tally) -> Outcome {
         _ => Err(Refusal { question: Question(question), at }),
     };
     let proved = Table::read(bytes).map(Columns);
-    let (told, given) = ffi::read(bytes);
+    let given = ffi::read(bytes);
     tally.asked(proved.as_ref().err().map(|refusal| refusal.question));
     names::count(bytes, question, at, tally);
     editions::count_text(bytes, question, at, tally);
     tally.share(Shared::Read, table.0.share.iter().any(|&share| share > 0));
-    let proved = (proved, told.question, told.at, Columns(given));
+    let proved = (proved, given.question, given.at, Columns(given.table));
     tally.same("read", proved, (second, question.into(), at as u32, table), || show::bytes("text", bytes))
 }
 

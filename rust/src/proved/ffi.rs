@@ -5,14 +5,15 @@
 //! pointer is what its type says. No struct has padding, so each byte of an answer is one of a number's.
 
 use super::{State, Table};
-use std::mem::{align_of, offset_of, size_of, MaybeUninit};
+use std::mem::{align_of, offset_of, size_of};
 use std::ptr;
 
 #[repr(C)]
-#[derive(Clone, Copy, Debug, PartialEq, Eq)]
-pub struct Told {
+#[derive(Clone, Debug, PartialEq, Eq)]
+pub struct Reading {
     pub question: u32,
     pub at: u32,
+    pub table: Table,
 }
 
 #[repr(C)]
@@ -121,7 +122,7 @@ laid_out!(
     states 0, branches 4, sort 8, owner 136, target 648, fields 1160, label_high 1672, label_low 2184,
     kind 2696, low 4744, high 6792, share 8840, edition 9352, reserved 9356
 );
-laid_out!(Told, 8, 4, question 0, at 4);
+laid_out!(Reading, 9368, 4, question 0, at 4, table 8);
 laid_out!(Turned, 9364, 4, question 0, table 4);
 laid_out!(Head, 8, 4, question 0, length 4);
 laid_out!(State, 324, 2, position 0, standing 1, setting 2, n 4, k 68);
@@ -149,7 +150,7 @@ unsafe extern "C" {
     pub safe fn sojimu_range_legal(kind: u32, low: u32, high: u32) -> bool;
     pub safe fn sojimu_fresh(table: &Table, setting: u32) -> Started;
     fn sojimu_raw_turn(table: &Table, state: *const u8, counts: *const u16) -> Turn;
-    fn sojimu_raw_read(text: *const u8, length: usize, table: *mut Table) -> Told;
+    fn sojimu_raw_read(text: *const u8, length: usize) -> Reading;
     fn sojimu_raw_report(
         protocol: *const u8,
         protocol_length: usize,
@@ -200,10 +201,9 @@ unsafe extern "C" {
 }
 
 #[inline]
-pub fn read(text: &[u8]) -> (Told, Table) {
-    let mut table = MaybeUninit::uninit();
-    // SAFETY: pointer and length are those of one slice, which is only read; the library writes every word of the table.
-    unsafe { (sojimu_raw_read(text.as_ptr(), text.len(), table.as_mut_ptr()), table.assume_init()) }
+pub fn read(text: &[u8]) -> Reading {
+    // SAFETY: pointer and length are those of one slice, which is only read.
+    unsafe { sojimu_raw_read(text.as_ptr(), text.len()) }
 }
 
 #[inline]

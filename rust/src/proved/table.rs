@@ -113,10 +113,10 @@ impl Table {
     /// ```
     #[inline]
     pub fn read(text: &[u8]) -> Result<Table, Refusal> {
-        let (told, table) = ffi::read(text);
-        match Question::of(told.question) {
-            None => Ok(table),
-            Some(question) => Err(Refusal { question, at: told.at as usize }),
+        let reading = ffi::read(text);
+        match Question::of(reading.question) {
+            None => Ok(reading.table),
+            Some(question) => Err(Refusal { question, at: reading.at as usize }),
         }
     }
 

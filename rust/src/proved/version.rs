@@ -3,7 +3,7 @@
 use super::ffi;
 
 /// The version of the calls and structs that this wrapper is written for: `SOJIMU_VERSION` of the header.
-pub const VERSION: u32 = 5;
+pub const VERSION: u32 = 6;
 
 /// The version of the static library that is linked. It is raised whenever a struct or a call changes.
 ///

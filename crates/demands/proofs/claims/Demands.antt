@@ -12,8 +12,8 @@ use Rattle.table.specs.View.{states-of, view}
 use Rattle.table.proofs.laws.Lists.{never}
 use Rattle.message.specs.Rules.{Rules, table-rules}
 use Rattle.grammar.specs.Grammar.{Ty, Protocol, Writes, edition-named}
-use Rattle.grammar.specs.Filled.{Reading}
 use Rattle.grammar.specs.Reading.{reads}
+use Rattle.grammar.specs.declared.Reading.{Reading}
 use Rattle.grammar.proofs.laws.Reads.{read-sound}
 use Rattle.grammar.proofs.laws.Unique.{syntax-unique}
 use Rattle.spelling.proofs.claims.ReadExactly.{writes-spelt, read-spelt}

@@ -13,8 +13,8 @@ use Rattle.grammar.proofs.laws.Questions.{asked}
 use Rattle.grammar.specs.Building.{denied}
 use Rattle.grammar.specs.inner.Scanner.{token-at, tokens-from, tokens}
 use Rattle.grammar.specs.Reading.{State, questions, taken, run-tokens, start, built, reads}
+use Rattle.grammar.specs.declared.Reading.{Reading}
 use Rattle.grammar.specs.declared.token.Token.{Token}
-use Rattle.grammar.specs.Filled.{Reading}
 use Rattle.grammar.proofs.laws.Spans.{token-spans}
 
 abbrev Small : List (ℕ × Bool) → Type 0

@@ -21,7 +21,7 @@ use Rattle.message.specs.declared.High.{High}
 use Rattle.message.proofs.laws.Layout.{put-length, put-put}
 use Rattle.message.proofs.laws.Making.{put-opening}
 use Rattle.grammar.specs.Reading.{reads}
-use Rattle.grammar.specs.Filled.{Reading}
+use Rattle.grammar.specs.declared.Reading.{Reading}
 use Rattle.grammar.proofs.laws.Reads.{read-sound}
 use Rattle.machine.specs.Machine.{fresh-machine, run, Fewest}
 use Rattle.machine.specs.Fit.{Failing}

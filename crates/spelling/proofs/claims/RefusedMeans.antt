@@ -15,10 +15,11 @@ use Rattle.table.proofs.laws.Lists.{never}
 use Rattle.grammar.specs.Token.{token}
 use Rattle.grammar.specs.inner.Scanner.{tokens}
 use Rattle.grammar.specs.Building.{denied}
-use Rattle.grammar.specs.Filled.{Reading, refused, written}
+use Rattle.grammar.specs.Filled.{refused, written}
 use Rattle.grammar.specs.Reading.{State, token-formed, grammar-allows, edition-known, name-bound, guarded, ranged, share-ranged, new-label, within, shares-add, questions, start, run-tokens, built, reads}
 use Rattle.grammar.proofs.laws.Questions.{asked}
 use Rattle.grammar.specs.Grammar.{Protocol, Tok, word, number, sign, print-text, tok-of}
+use Rattle.grammar.specs.declared.Reading.{Reading}
 use Rattle.grammar.specs.declared.token.Token.{Token}
 use Rattle.grammar.proofs.laws.TokOf.{kind-sign}
 use Rattle.grammar.proofs.laws.GrammarAllows.{MadeUp}

@@ -6,7 +6,8 @@ use Prim.Native.Nat.{ℕ, suc, _+_}
 use lib.ListN.{length}
 use borrow.Author.Tests.{ne-eqb}
 use Rattle.grammar.specs.Grammar.{Ty, Br, way-sort, sorts, sorts-br, Scope, nothing-bound, bind, first-state, branch-for, branches, branches-br, share-of, shares, shares-br, table-of, Protocol, edition-named}
-use Rattle.grammar.specs.Filled.{Reading, filled}
+use Rattle.grammar.specs.Filled.{filled}
+use Rattle.grammar.specs.declared.Reading.{Reading}
 use Rattle.grammar.proofs.laws.Reads.{read-filled}
 use Rattle.types.specs.Straight.{Straight, at-end, at-name, before-name, in-rec, in-choice, StraightBr, in-last, in-also, StraightSame}
 use Rattle.types.proofs.laws.TextRules.{legal}
