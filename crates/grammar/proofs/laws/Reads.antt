@@ -74,6 +74,15 @@ module _ (s : List ℕ) where
           (p .0, record { short = leb-true (length s) 8192 e; written = p .1 }, good-legal (p .0) (g .0) (g .1))
       go false e h = absurd (omega arith)
 
+-- a text that 1 does not refuse is not too long
+pub not-long : (s : List ℕ) → (reads s .question ≡ 1 → ⊥) → length s ≤ 8192
+unfolding reads built denied
+not-long s h = go (leb (length s) 8192) refl h
+  where
+    go : (b : Bool) → leb (length s) 8192 ≡ b → (cond b (run-tokens s start (tokens s)) (denied 1 0) .question ≡ 1 → ⊥) → length s ≤ 8192
+    go true e h = leb-true (length s) 8192 e
+    go false e h = absurd (h refl)
+
 -- the table's words, filled up with 0
 pub read-filled : (s : List ℕ) (p : Protocol) → Writes s p → Legal p → reads s ≡ came-out 0 0 (filled (table-of p))
 unfolding reads

@@ -11,7 +11,8 @@ use borrow.Author.Tests.{eqb-true}
 use Rattle.table.proofs.laws.Lists.{both}
 use Rattle.grammar.specs.Grammar.{Way, SyntaxField, Ty, stop, var, loop, choice, Br, last, also, bare, recs-guarded}
 use Rattle.grammar.proofs.laws.Questions.{recs-guarded-br}
-use Rattle.grammar.proofs.laws.Reads.{five-unguarded}
+use Rattle.grammar.proofs.laws.Reads.{not-long, five-unguarded}
+use Rattle.spelling.proofs.claims.SpeltScanned.{writes-spelt}
 use Rattle.types.specs.Types.{substitute, substitute-br, unfolded, HasBranch, only, first, later, recs}
 use Rattle.types.specs.Contractive.{Unfolds, unfolds, Reaches, here, past-rec, past-message, Silent, Contractive, ContractiveExactly, ReadContractive, FiveSilent}
 use Rattle.types.proofs.laws.Close.{free-br, Closed, closed-also, closed-unfolded}
@@ -198,7 +199,7 @@ contractive-exactly t b = (λ g. guarded-contractive t (bound-closed t b, g), λ
     go false e c = let d = unguarded-diverges t e in absurd (c (d .0) (d .1) (d .2))
 
 pub read-contractive : ReadContractive
-read-contractive s h t w = let p = proper s h t w in guarded-contractive (t .type) (p .closed, p .guard)
+read-contractive s t x = let p = proper s t x in guarded-contractive (t .type) (p .closed, p .guard)
 
 pub five-silent : FiveSilent
-five-silent s h t w = unguarded-diverges (t .type) (five-unguarded s h t w)
+five-silent s t sp h = unguarded-diverges (t .type) (five-unguarded s h t (writes-spelt s t .1 (not-long s (λ e. omega arith), sp)))
