@@ -10,10 +10,8 @@ use lib.Dec.{leb, eqb}
 use lib.ListN.{length}
 use Rattle.table.specs.Lists.{every}
 use Rattle.table.specs.View.{label-of}
-use Rattle.grammar.specs.Token.{one-of, word-in}
-use Rattle.grammar.specs.inner.Scanner.{tokens}
-use Rattle.grammar.specs.Number.{Signed, signed-in, offset, in-kind, in-share, in-edition}
-use Rattle.grammar.specs.declared.token.Token.{Token}
+use Rattle.grammar.specs.Token.{one-of}
+use Rattle.grammar.specs.Number.{Signed, offset, in-kind, in-share, in-edition}
 use Rattle.table.specs.Table as T
 use Rattle.grammar.specs.Kind as K
 
@@ -129,16 +127,6 @@ print-opening (some n) ts = sign K.edition ∷ number n ∷ ts
 -- a whole text: its opening, the type, and the text ran out
 abbrev pub print-text : Protocol → List Tok
 print-text p = print-opening (p .opening) (print (p .type) (sign K.ran-out ∷ []))
-
--- a token of a text
-unfoldable pub tok-of : List ℕ → Token → Tok
-tok-of s k =
-    cond (eqb (k .kind) K.name) (word (word-in s k)) (cond (eqb (k .kind) K.number) (number (signed-in s k)) (sign (k .kind)))
-
--- the text is short enough, and its tokens are those of the protocol
-pub record Writes (s : List ℕ) (p : Protocol) : Type 0 where
-  pub short : length s ≤ text-limit
-  pub written : map (tok-of s) (tokens s) ≡ print-text p
 
 -- ---- the table that a protocol means
 

@@ -10,3 +10,4 @@ pub mod Spelling
 pub mod StandsAt
 pub mod TextOf
 pub mod WellFormed
+pub mod Writes

@@ -7,4 +7,5 @@ pub mod Speller
 pub mod TextOf
 pub mod TextTheorems
 pub mod Refusals
+pub mod Scanned
 pub mod SpellingExamples

@@ -4,7 +4,8 @@
 use mathlib.Core.Path.{_≡_}
 use mathlib.Core.List.{List, _∷_, _++_, map}
 use Prim.Native.Nat.{ℕ, _≤_}
-use Rattle.grammar.specs.Grammar.{Protocol, Tok, print-text, tok-of}
+use Rattle.grammar.specs.Grammar.{Protocol, Tok, print-text}
+use Rattle.grammar.specs.TokOf.{tok-of}
 use Rattle.grammar.specs.Filled.{refused}
 use Rattle.grammar.specs.Reading.{reads}
 use Rattle.grammar.specs.declared.token.Token.{Token}

@@ -1,18 +1,17 @@
--- The theorems on texts, each as a type that proofs/ has a value of. The scanner is named in SpeltScanned and WritesSpelt only.
+-- The theorems on texts, each as a type that proofs/ has a value of.
 -- Assumes nothing.
 use mathlib.Core.Path.{_≡_}
 use mathlib.Core.Bool.{true, cond}
 use mathlib.Core.Logic.{_↔_}
-use mathlib.Core.List.{List, [], _∷_, map}
+use mathlib.Core.List.{List}
 use Prim.Native.Nat.{ℕ, suc, _≤_}
 use lib.Dec.{leb}
 use lib.ListN.{length}
 use Rattle.table.specs.Ascii.{letters, digits}
 use Rattle.table.specs.View.{label-of, view, sound-of}
 use Rattle.grammar.specs.Token.{word-of}
-use Rattle.grammar.specs.inner.Scanner.{tokens}
 use Rattle.grammar.specs.Number.{value-of}
-use Rattle.grammar.specs.Grammar.{Protocol, Tok, sign, print-text, tok-of, Writes, table-of, Legal}
+use Rattle.grammar.specs.Grammar.{Protocol, Tok, print-text, table-of, Legal}
 use Rattle.grammar.specs.Building.{denied}
 use Rattle.grammar.specs.Filled.{Reading, came-out, filled, padded, written}
 use Rattle.grammar.specs.Reading.{start, run-tokens, reads}
@@ -22,26 +21,12 @@ use Rattle.spelling.specs.Places.{Placed}
 use Rattle.spelling.specs.Speller.{spell, Spellable}
 use Rattle.spelling.specs.TextOf.{TextOf}
 use Rattle.table.specs.Table as T
-use Rattle.grammar.specs.Kind as K
 
--- ---- texts and the scanner
-
--- no token is malformed
-abbrev pub WellFormed : List Tok → Type 0
-WellFormed [] = Unit {0}
-WellFormed (t ∷ ts) = (t ≡ sign K.malformed → ⊥) × WellFormed ts
-
--- A text spells tokens exactly when the scanner finds them in it and none of them is malformed.
-abbrev pub SpeltScanned : Type 0
-SpeltScanned = (s : List ℕ) (ts : List Tok) → Spelt s ts ↔ ((map (tok-of s) (tokens s) ≡ ts) × WellFormed ts)
+-- ---- what a text spells
 
 -- A text spells at most one list of tokens.
 abbrev pub SpeltOnce : Type 0
 SpeltOnce = (s : List ℕ) (ts us : List Tok) → Spelt s ts → Spelt s us → ts ≡ us
-
--- The scanner finds a protocol's tokens in a text that is not too long exactly when the text spells them.
-abbrev pub WritesSpelt : Type 0
-WritesSpelt = (s : List ℕ) (p : Protocol) → Writes s p ↔ ((length s ≤ 8192) × Spelt s (print-text p))
 
 -- A text spells at most one protocol.
 abbrev pub ProtocolOnce : Type 0

@@ -12,7 +12,8 @@ use Rattle.table.specs.Table.{Branch, Table}
 use Rattle.grammar.specs.Number.{Signed, in-edition}
 use Rattle.grammar.specs.Building.{empty-branch, stateless, set-edition, Built}
 use Rattle.grammar.specs.Reading.{Item, outset, edition, type, Open, State, state, start, token-formed, grammar-allows, edition-known, name-bound, guarded, ranged, share-ranged, new-label, within, shares-add, taken, run-tokens, questions}
-use Rattle.grammar.specs.Grammar.{Ty, Tok, number, sign, print, print-opening, tok-of, edition-named, opening-legal}
+use Rattle.grammar.specs.Grammar.{Ty, Tok, number, sign, print, print-opening, edition-named, opening-legal}
+use Rattle.grammar.specs.TokOf.{tok-of}
 use Rattle.grammar.specs.declared.token.Token.{Token}
 use Rattle.grammar.proofs.laws.Questions.{asked}
 use Rattle.grammar.proofs.laws.TokOf.{sign-kind, number-kind, kind-sign}

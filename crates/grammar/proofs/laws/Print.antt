@@ -20,7 +20,8 @@ use Rattle.grammar.specs.Number.{Signed, offset, in-kind, in-share}
 use Rattle.table.specs.View.{label-of}
 use Rattle.grammar.specs.Building.{empty-branch, labelled, field-added, add-state, add-branch, add-share, label-used, choice-right}
 use Rattle.grammar.specs.Reading.{Item, just, name, label, type, more, fields, field, low, high, more-fields, dot, share, Open, a-rec, a-choice, State, state, meaning, unguarded, closed, token-formed, grammar-allows, edition-known, is-found, name-bound, guarded, ranged, share-ranged, new-label, within, shares-add, sign-of, choice-sort, kind-of, a-branch, a-field, target, stored, began, taken, questions}
-use Rattle.grammar.specs.Grammar.{Way, sending, receiving, Kind, int, text, flag, SyntaxField, Share, Ty, stop, var, loop, choice, Br, last, also, Tok, word, number, sign, mark, arrow, letter, kind-code, way-sort, field-of, print-more, print-fields, print-share, print-head, print, print-br, tok-of, sorts, sorts-br, bind, or-else, first-state, share-of, shares, shares-br, recs-guarded, range-legal, fields-legal, share-legal, branch-for as row, branches as rows, branches-br as rowsBr}
+use Rattle.grammar.specs.Grammar.{Way, sending, receiving, Kind, int, text, flag, SyntaxField, Share, Ty, stop, var, loop, choice, Br, last, also, Tok, word, number, sign, mark, arrow, letter, kind-code, way-sort, field-of, print-more, print-fields, print-share, print-head, print, print-br, sorts, sorts-br, bind, or-else, first-state, share-of, shares, shares-br, recs-guarded, range-legal, fields-legal, share-legal, branch-for as row, branches as rows, branches-br as rowsBr}
+use Rattle.grammar.specs.TokOf.{tok-of}
 use Rattle.grammar.specs.declared.token.Token.{Token}
 use Rattle.grammar.proofs.laws.TokOf.{sign-kind, word-kind, number-kind}
 use Rattle.grammar.proofs.laws.RunTokens.{Goes, NoneOr, after, given, one, past, done, ending, into, towards}

@@ -16,7 +16,9 @@ use Rattle.grammar.specs.inner.Scanner.{tokens}
 use Rattle.grammar.specs.Building.{empty-branch, stateless, Built, came, denied}
 use Rattle.grammar.specs.Filled.{Reading, came-out, filled, written}
 use Rattle.grammar.specs.Reading.{state, start, meaning, unguarded, stored, closed, token-formed, grammar-allows, edition-known, name-bound, guarded, ranged, share-ranged, new-label, within, shares-add, taken, run-tokens, built, reads, questions}
-use Rattle.grammar.specs.Grammar.{Protocol, sign, print-text, tok-of, Writes, nothing-bound, edition-named, table-of, recs-guarded, opening-legal, Legal}
+use Rattle.grammar.specs.Grammar.{Protocol, sign, print-text, nothing-bound, edition-named, table-of, recs-guarded, opening-legal, Legal}
+use Rattle.grammar.specs.TokOf.{tok-of}
+use Rattle.grammar.specs.inner.Writes.{Writes}
 use Rattle.grammar.specs.declared.token.Token.{Token}
 use Rattle.grammar.proofs.laws.Holds.{legal-holds, view-holds, known-holds}
 use Rattle.grammar.proofs.laws.TokOf.{sign-kind}

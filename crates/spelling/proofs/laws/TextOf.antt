@@ -3,12 +3,13 @@
 use mathlib.Core.Path.{_≡_, ap}
 use mathlib.Core.List.{List}
 use Prim.Native.Nat.{ℕ}
-use Rattle.grammar.specs.Grammar.{Protocol, Writes, table-of, Legal}
+use Rattle.grammar.specs.Grammar.{Protocol, table-of, Legal}
+use Rattle.grammar.specs.inner.Writes.{Writes}
 use Rattle.grammar.specs.Filled.{Reading, came-out, filled}
 use Rattle.grammar.specs.Reading.{reads}
 use Rattle.grammar.proofs.laws.Reads.{read-only, read-filled}
 use Rattle.spelling.specs.TextOf.{TextOf}
-use Rattle.spelling.proofs.claims.SpeltScanned.{writes-spelt}
+use Rattle.spelling.proofs.laws.Writes.{writes-spelt}
 
 module _ (s : List ℕ) (p : Protocol) (x : TextOf s p) where
   pub writes : Writes s p

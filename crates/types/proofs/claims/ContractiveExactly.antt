@@ -12,7 +12,7 @@ use Rattle.table.proofs.laws.Lists.{both}
 use Rattle.grammar.specs.Grammar.{Way, SyntaxField, Ty, stop, var, loop, choice, Br, last, also, bare, recs-guarded}
 use Rattle.grammar.proofs.laws.Questions.{recs-guarded-br}
 use Rattle.grammar.proofs.laws.Reads.{not-long, five-unguarded}
-use Rattle.spelling.proofs.claims.SpeltScanned.{writes-spelt}
+use Rattle.spelling.proofs.laws.Writes.{writes-spelt}
 use Rattle.types.specs.Types.{substitute, substitute-br, unfolded, HasBranch, only, first, later, recs}
 use Rattle.types.specs.Contractive.{Unfolds, unfolds, Reaches, here, past-rec, past-message, Silent, Contractive, ContractiveExactly, ReadContractive, FiveSilent}
 use Rattle.types.proofs.laws.Close.{free-br, Closed, closed-also, closed-unfolded}

@@ -6,7 +6,6 @@ use mathlib.Core.Bool.{not}
 use mathlib.Core.Option.{some}
 use borrow.Author.Tests.{not-false}
 use Rattle.table.specs.Table.{is-choice, dual as dual-table}
-use Rattle.table.specs.Table as Tables
 use Rattle.table.specs.View.{view}
 use Rattle.table.proofs.claims.DualTwice.{dual-view}
 use Rattle.message.specs.Rules.{table-rules, led}
