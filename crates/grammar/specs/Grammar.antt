@@ -266,16 +266,12 @@ unfoldable pub range-legal : SyntaxField → Bool
 range-legal f =
     in-kind (kind-code (f .kind)) (f .low) && in-kind (kind-code (f .kind)) (f .high) && leb (offset (f .low)) (offset (f .high))
 
--- 6 and 8, of fields: at most four in a branch
-unfoldable pub fields-legal : List SyntaxField → Bool
-fields-legal fs = every range-legal fs && leb (length fs) T.fields-most
-
 abbrev pub fields-in : Br → List SyntaxField
 fields-in (last l fs sh t) = fs
 fields-in (also l fs sh t bs) = fs
 
-abbrev pub branches-legal : Ty → Bool
-branches-legal t = everywhere (λ x u. true) (λ bs. fields-legal (fields-in bs)) t
+abbrev pub ranges-legal : Ty → Bool
+ranges-legal t = everywhere (λ x u. true) (λ bs. every range-legal (fields-in bs)) t
 
 -- 7. the label is new in its choice
 abbrev pub label-among : Br → ℕ → Bool
@@ -288,6 +284,10 @@ label-new (also l fs sh t bs) = not (label-among bs l)
 
 abbrev pub labels-new : Ty → Bool
 labels-new t = everywhere (λ x u. true) label-new t
+
+-- 8, of fields: at most four in a branch
+abbrev pub fields-few : Ty → Bool
+fields-few t = everywhere (λ x u. true) (λ bs. leb (length (fields-in bs)) T.fields-most) t
 
 -- 8, of what is open: choices and `rec`s around one another
 abbrev mutual
@@ -338,8 +338,9 @@ opening-legal (some n) = in-edition n
 pub record Legal (p : Protocol) : Type 0 where
   pub bound : names-bound (p .type) [] ≡ true
   pub guarded : recs-guarded (p .type) ≡ true
-  pub fields : branches-legal (p .type) ≡ true
+  pub ranges : ranges-legal (p .type) ≡ true
   pub labels : labels-new (p .type) ≡ true
+  pub fields : fields-few (p .type) ≡ true
   pub states : length (table-of p .sorts) ≤ T.states-most
   pub branches : length (table-of p .branches) ≤ T.branches-most
   pub nested : depth (p .type) ≤ open-most

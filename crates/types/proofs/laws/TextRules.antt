@@ -31,7 +31,7 @@ module _ (s : List ℕ) (t : Protocol) (x : TextOf s t) where
 
   pub proper : Proper (t .type)
   proper =
-      record { closed = closed; guard = x .legal .guarded; ranges = x .legal .fields; labels = x .legal .labels; words = labels-legal s t (writes s t x) }
+      record { closed = closed; guard = x .legal .guarded; ranges = x .legal .ranges; labels = x .legal .labels; words = labels-legal s t (writes s t x) }
 
   pub table : view (reads s .table) ≡ table-of t
   table = read-seen s (table-of t) .1 (t, writes s t x, x .legal, refl) .1
