@@ -2,6 +2,7 @@
 pub mod BatchInTwo
 pub mod BatchSingly
 pub mod BatchesWatched
+pub mod CountsSoundExactly
 pub mod CountsTally
 pub mod DemandTwo
 pub mod DueFound

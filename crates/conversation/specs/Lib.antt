@@ -7,6 +7,7 @@ pub mod Conversation
 pub mod Batch
 pub mod Batches
 pub mod Counts
+pub mod CountsSound
 pub mod Counting
 pub mod Warning
 pub mod inner

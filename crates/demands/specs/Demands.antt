@@ -8,9 +8,9 @@ use mathlib.Core.Option.{Option}
 use Prim.Native.Nat.{ℕ, _*_, _≤_}
 use lib.ListN.{length}
 use Rattle.table.specs.View.{states-of, view}
-use Rattle.grammar.specs.Grammar.{text-limit, Protocol, print-text, Legal}
+use Rattle.grammar.specs.Grammar.{Protocol}
 use Rattle.grammar.specs.Reading.{reads}
-use Rattle.spelling.specs.Spelling.{Spelt}
+use Rattle.spelling.specs.TextOf.{TextOf}
 use Rattle.types.specs.Types.{protocol-rules}
 use Rattle.conversation.specs.Conversation.{Sent, Watched, BlamedEarly}
 use Rattle.conversation.specs.Batches.{Left, WatchedBatches}
@@ -18,12 +18,6 @@ use Rattle.machine.specs.Machine.{Safe, Unsafe}
 use Rattle.machine.specs.Answer.{Answer, fits, fails, Answered, FewestMoves}
 use Rattle.together.specs.Unblamed.{Keeps, Unblamed}
 use Rattle.report.specs.Report.{fit, no-fit, Reported, ShowsFewest}
-
--- s is a text of the protocol p, which is its edition and its type: at most 8,192 bytes that spell p, and p is legal
-pub record TextOf (s : List ℕ) (p : Protocol) : Type 0 where
-  pub short : length s ≤ text-limit
-  pub spelt : Spelt s (print-text p)
-  pub legal : Legal p
 
 -- a text is read exactly when it is one of some protocol (into which table: spelling/specs/TextTheorems.antt, ReadExactly), and of one only
 abbrev pub ReadOfTexts : Type 0

@@ -10,10 +10,8 @@ use lib.Dec.{leb, eqb}
 use lib.ListN.{length}
 use Rattle.table.specs.Lists.{every}
 use Rattle.table.specs.View.{label-of}
-use Rattle.grammar.specs.Token.{one-of, word-in}
-use Rattle.grammar.specs.inner.Scanner.{tokens}
-use Rattle.grammar.specs.Number.{Signed, signed-in, offset, in-kind, in-share, in-edition}
-use Rattle.grammar.specs.declared.token.Token.{Token}
+use Rattle.grammar.specs.Token.{one-of}
+use Rattle.grammar.specs.Number.{Signed, offset, in-kind, in-share, in-edition}
 use Rattle.table.specs.Table as T
 use Rattle.grammar.specs.Kind as K
 
@@ -129,16 +127,6 @@ print-opening (some n) ts = sign K.edition ∷ number n ∷ ts
 -- a whole text: its opening, the type, and the text ran out
 abbrev pub print-text : Protocol → List Tok
 print-text p = print-opening (p .opening) (print (p .type) (sign K.ran-out ∷ []))
-
--- a token of a text
-unfoldable pub tok-of : List ℕ → Token → Tok
-tok-of s k =
-    cond (eqb (k .kind) K.name) (word (word-in s k)) (cond (eqb (k .kind) K.number) (number (signed-in s k)) (sign (k .kind)))
-
--- the text is short enough, and its tokens are those of the protocol
-pub record Writes (s : List ℕ) (p : Protocol) : Type 0 where
-  pub short : length s ≤ text-limit
-  pub written : map (tok-of s) (tokens s) ≡ print-text p
 
 -- ---- the table that a protocol means
 
@@ -278,16 +266,12 @@ unfoldable pub range-legal : SyntaxField → Bool
 range-legal f =
     in-kind (kind-code (f .kind)) (f .low) && in-kind (kind-code (f .kind)) (f .high) && leb (offset (f .low)) (offset (f .high))
 
--- 6 and 8, of fields: at most four in a branch
-unfoldable pub fields-legal : List SyntaxField → Bool
-fields-legal fs = every range-legal fs && leb (length fs) T.fields-most
-
 abbrev pub fields-in : Br → List SyntaxField
 fields-in (last l fs sh t) = fs
 fields-in (also l fs sh t bs) = fs
 
-abbrev pub branches-legal : Ty → Bool
-branches-legal t = everywhere (λ x u. true) (λ bs. fields-legal (fields-in bs)) t
+abbrev pub ranges-legal : Ty → Bool
+ranges-legal t = everywhere (λ x u. true) (λ bs. every range-legal (fields-in bs)) t
 
 -- 7. the label is new in its choice
 abbrev pub label-among : Br → ℕ → Bool
@@ -300,6 +284,10 @@ label-new (also l fs sh t bs) = not (label-among bs l)
 
 abbrev pub labels-new : Ty → Bool
 labels-new t = everywhere (λ x u. true) label-new t
+
+-- 8, of fields: at most four in a branch
+abbrev pub fields-few : Ty → Bool
+fields-few t = everywhere (λ x u. true) (λ bs. leb (length (fields-in bs)) T.fields-most) t
 
 -- 8, of what is open: choices and `rec`s around one another
 abbrev mutual
@@ -350,8 +338,9 @@ opening-legal (some n) = in-edition n
 pub record Legal (p : Protocol) : Type 0 where
   pub bound : names-bound (p .type) [] ≡ true
   pub guarded : recs-guarded (p .type) ≡ true
-  pub fields : branches-legal (p .type) ≡ true
+  pub ranges : ranges-legal (p .type) ≡ true
   pub labels : labels-new (p .type) ≡ true
+  pub fields : fields-few (p .type) ≡ true
   pub states : length (table-of p .sorts) ≤ T.states-most
   pub branches : length (table-of p .branches) ≤ T.branches-most
   pub nested : depth (p .type) ≤ open-most

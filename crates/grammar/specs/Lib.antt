@@ -5,6 +5,7 @@ pub mod Kind
 pub mod Token
 pub mod Number
 pub mod Grammar
+pub mod TokOf
 pub mod Building
 pub mod Filled
 pub mod Reading

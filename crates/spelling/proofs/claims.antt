@@ -2,6 +2,7 @@
 pub mod DecimalValue
 pub mod NameOnce
 pub mod ReadExactly
+pub mod ReadOrRefused
 pub mod ReadPlaced
 pub mod RefusedMeans
 pub mod SpellableExactly

@@ -8,4 +8,6 @@ pub mod Spellable
 pub mod Speller
 pub mod Spelling
 pub mod StandsAt
+pub mod TextOf
 pub mod WellFormed
+pub mod Writes

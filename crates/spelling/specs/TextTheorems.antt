@@ -1,18 +1,17 @@
--- The theorems on texts, each as a type that proofs/ has a value of. The scanner is named in SpeltScanned and WritesSpelt only.
+-- The theorems on texts, each as a type that proofs/ has a value of.
 -- Assumes nothing.
 use mathlib.Core.Path.{_≡_}
 use mathlib.Core.Bool.{true, cond}
 use mathlib.Core.Logic.{_↔_}
-use mathlib.Core.List.{List, [], _∷_, map}
+use mathlib.Core.List.{List}
 use Prim.Native.Nat.{ℕ, suc, _≤_}
 use lib.Dec.{leb}
 use lib.ListN.{length}
 use Rattle.table.specs.Ascii.{letters, digits}
 use Rattle.table.specs.View.{label-of, view, sound-of}
 use Rattle.grammar.specs.Token.{word-of}
-use Rattle.grammar.specs.inner.Scanner.{tokens}
 use Rattle.grammar.specs.Number.{value-of}
-use Rattle.grammar.specs.Grammar.{text-limit, Protocol, Tok, sign, print-text, tok-of, Writes, table-of, Legal}
+use Rattle.grammar.specs.Grammar.{Protocol, Tok, print-text, table-of, Legal}
 use Rattle.grammar.specs.Building.{denied}
 use Rattle.grammar.specs.Filled.{came-out, filled, padded, written}
 use Rattle.grammar.specs.Reading.{start, run-tokens, reads}
@@ -21,27 +20,14 @@ use Rattle.grammar.specs.declared.token.Token.{Token}
 use Rattle.spelling.specs.Spelling.{Name, Spelt}
 use Rattle.spelling.specs.Places.{Placed}
 use Rattle.spelling.specs.Speller.{spell, Spellable}
+use Rattle.spelling.specs.TextOf.{TextOf}
 use Rattle.table.specs.Table as T
-use Rattle.grammar.specs.Kind as K
 
--- ---- texts and the scanner
-
--- no token is malformed
-abbrev pub WellFormed : List Tok → Type 0
-WellFormed [] = Unit {0}
-WellFormed (t ∷ ts) = (t ≡ sign K.malformed → ⊥) × WellFormed ts
-
--- A text spells tokens exactly when the scanner finds them in it and none of them is malformed.
-abbrev pub SpeltScanned : Type 0
-SpeltScanned = (s : List ℕ) (ts : List Tok) → Spelt s ts ↔ ((map (tok-of s) (tokens s) ≡ ts) × WellFormed ts)
+-- ---- what a text spells
 
 -- A text spells at most one list of tokens.
 abbrev pub SpeltOnce : Type 0
 SpeltOnce = (s : List ℕ) (ts us : List Tok) → Spelt s ts → Spelt s us → ts ≡ us
-
--- The scanner finds a protocol's tokens in a text that is not too long exactly when the text spells them.
-abbrev pub WritesSpelt : Type 0
-WritesSpelt = (s : List ℕ) (p : Protocol) → Writes s p ↔ ((length s ≤ text-limit) × Spelt s (print-text p))
 
 -- A text spells at most one protocol.
 abbrev pub ProtocolOnce : Type 0
@@ -49,26 +35,26 @@ ProtocolOnce = (s : List ℕ) (p r : Protocol) → Spelt s (print-text p) → Sp
 
 -- ---- reading
 
--- A text is read, into r, exactly when it is at most 8,192 bytes long and spells a legal protocol, and r is that protocol's table.
+-- A text is read, into r, exactly when it is one of a protocol, and r is that protocol's table.
 abbrev pub ReadExactly : Type 0
 ReadExactly =
     (s : List ℕ) (r : Reading)
     → ((reads s ≡ r) × (r .question ≡ 0))
-    ↔ ((p : Protocol) × (length s ≤ text-limit) × Spelt s (print-text p) × Legal p × (r ≡ came-out 0 0 (filled (table-of p))))
+    ↔ ((p : Protocol) × TextOf s p × (r ≡ came-out 0 0 (filled (table-of p))))
 
 -- The same of what is seen of the table's words.
 abbrev pub ReadSeen : Type 0
 ReadSeen =
     (s : List ℕ) (T : T.Table)
     → ((reads s .question ≡ 0) × (view (reads s .table) ≡ T))
-    ↔ ((p : Protocol) × (length s ≤ text-limit) × Spelt s (print-text p) × Legal p × (T ≡ table-of p))
+    ↔ ((p : Protocol) × TextOf s p × (T ≡ table-of p))
 
 -- Reading any text, refusals and their places included, asks the questions at the tokens that stand in it.
 abbrev pub ReadPlaced : Type 0
 ReadPlaced =
     (s : List ℕ) (r : Reading)
     → (reads s ≡ r)
-    ↔ ((ks : List Token) × Placed s 0 ks × (written (cond (leb (length s) text-limit) (run-tokens s start ks) (denied 1 0)) ≡ r))
+    ↔ ((ks : List Token) × Placed s 0 ks × (written (cond (leb (length s) 8192) (run-tokens s start ks) (denied 1 0)) ≡ r))
 
 -- A table that is read is sound (question 9).
 abbrev pub ReadSound : Type 0
@@ -86,7 +72,7 @@ SpellableExactly = (p : Protocol) → Spellable p ↔ ((s : List ℕ) × Spelt s
 
 -- The speller's text of a legal protocol is read, where it is not too long.
 abbrev pub SpellRead : Type 0
-SpellRead = (p : Protocol) → Spellable p → Legal p → length (spell p) ≤ text-limit → reads (spell p) ≡ came-out 0 0 (filled (table-of p))
+SpellRead = (p : Protocol) → Spellable p → Legal p → length (spell p) ≤ 8192 → reads (spell p) ≡ came-out 0 0 (filled (table-of p))
 
 -- ---- names
 

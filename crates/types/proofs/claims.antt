@@ -4,5 +4,6 @@ pub mod Headline
 pub mod RulesExactly
 pub mod SameComposed
 pub mod SameEnds
+pub mod SameNumbers
 pub mod SameVerdicts
 pub mod StraightSame

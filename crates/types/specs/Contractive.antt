@@ -6,8 +6,10 @@ use mathlib.Core.Logic.{_↔_}
 use mathlib.Core.Bool.{true}
 use mathlib.Core.List.{List, []}
 use Prim.Native.Nat.{ℕ, suc}
-use Rattle.grammar.specs.Grammar.{Way, SyntaxField, Ty, loop, choice, Br, Protocol, Writes, names-bound, recs-guarded}
+use Rattle.grammar.specs.Grammar.{Way, SyntaxField, Ty, loop, choice, Br, Protocol, print-text, names-bound, recs-guarded}
 use Rattle.grammar.specs.Reading.{reads}
+use Rattle.spelling.specs.Spelling.{Spelt}
+use Rattle.spelling.specs.TextOf.{TextOf}
 use Rattle.types.specs.Types.{unfolded, HasBranch}
 
 -- a step of a path that passes no message
@@ -37,8 +39,8 @@ ContractiveExactly = (t : Ty) → names-bound t [] ≡ true → (recs-guarded t 
 
 -- the type of a text that is read is contractive
 abbrev pub ReadContractive : Type 0
-ReadContractive = (s : List ℕ) → reads s .question ≡ 0 → (p : Protocol) → Writes s p → Contractive (p .type)
+ReadContractive = (s : List ℕ) (p : Protocol) → TextOf s p → Contractive (p .type)
 
 -- the type of a text that is refused by 5 is not: a path leads to where such a path begins
 abbrev pub FiveSilent : Type 0
-FiveSilent = (s : List ℕ) → reads s .question ≡ 5 → (p : Protocol) → Writes s p → (u : Ty) × Reaches (p .type) u × Silent u
+FiveSilent = (s : List ℕ) (p : Protocol) → Spelt s (print-text p) → reads s .question ≡ 5 → (u : Ty) × Reaches (p .type) u × Silent u

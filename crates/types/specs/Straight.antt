@@ -4,8 +4,9 @@
 use mathlib.Core.Path.{_≡_}
 use mathlib.Core.List.{List}
 use Prim.Native.Nat.{ℕ}
-use Rattle.grammar.specs.Grammar.{Way, SyntaxField, Share, Ty, stop, var, loop, choice, Br, last, also, Protocol, Writes, edition-named}
+use Rattle.grammar.specs.Grammar.{Way, SyntaxField, Share, Ty, stop, var, loop, choice, Br, last, also, Protocol, edition-named}
 use Rattle.grammar.specs.Reading.{reads}
+use Rattle.spelling.specs.TextOf.{TextOf}
 
 mutual
   -- u is t with `rec`s of other names put straight before some of its names
@@ -23,5 +24,5 @@ mutual
 
 abbrev pub StraightSame : Type 0
 StraightSame =
-    (s v : List ℕ) → reads s .question ≡ 0 → reads v .question ≡ 0 → (p q : Protocol) → Writes s p → Writes v q
+    (s v : List ℕ) (p q : Protocol) → TextOf s p → TextOf v q
     → Straight (p .type) (q .type) → edition-named (p .opening) ≡ edition-named (q .opening) → reads v .table ≡ reads s .table

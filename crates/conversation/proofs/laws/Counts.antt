@@ -15,7 +15,8 @@ use borrow.Author.Tests.{leb-true, le-leb, ltb-true, ltb-false, lt-ltb, le-ltb, 
 use Rattle.table.specs.Lists.{every, upto, first-no}
 use Rattle.table.specs.Table.{Branch, is-choice}
 use Rattle.table.specs.View.{Words, states-of, branches-of, sort-at, owner-at, sort-of, view, sound-of}
-use Rattle.table.specs.inner.Scans.{all, added}
+use Rattle.table.specs.Sound.{added}
+use Rattle.table.specs.inner.Scans.{all}
 use Rattle.table.proofs.laws.Lists.{both, join, left-fails, decided, alike, all-at, all-by, all-same, every-upto, upto-every}
 use Rattle.table.proofs.laws.View.{Facts, branches-of-is, sort-of-is, sound-facts}
 use Rattle.table.proofs.laws.SharesRight.{choice-sum, added-most, added-has}

@@ -1,6 +1,6 @@
 -- The claims of texts: reading joins bytes and types, and a type and its table go on together, in conversations and on the machine.
 -- Assumes nothing.
-use mathlib.Core.Path.{_≡_, refl, sym, ap, subst₂, _∙_}
+use mathlib.Core.Path.{_≡_, refl, sym, subst₂, _∙_}
 use mathlib.Core.Logic.{_↔_}
 use mathlib.Core.List.{List, map}
 use Prim.Native.Nat.{ℕ, _*_}
@@ -11,14 +11,15 @@ use Rattle.table.specs.Lists.{first-no}
 use Rattle.table.specs.View.{states-of, view}
 use Rattle.table.proofs.laws.Lists.{never}
 use Rattle.message.specs.Rules.{Rules, table-rules}
-use Rattle.grammar.specs.Grammar.{Ty, Protocol, Writes, edition-named}
+use Rattle.grammar.specs.Grammar.{Ty, Protocol, edition-named}
 use Rattle.grammar.specs.Reading.{reads}
 use Rattle.grammar.specs.declared.Reading.{Reading}
 use Rattle.grammar.proofs.laws.Reads.{read-sound}
-use Rattle.grammar.proofs.laws.Unique.{syntax-unique}
-use Rattle.spelling.proofs.claims.ReadExactly.{writes-spelt, read-spelt}
+use Rattle.spelling.specs.TextOf.{TextOf}
+use Rattle.spelling.proofs.claims.ReadExactly.{protocol-once}
+use Rattle.spelling.proofs.laws.TextOf.{is-read, its-protocol}
 use Rattle.types.specs.Types.{protocol-rules}
-use Rattle.types.proofs.laws.Agree.{Stands-for, Rules-alike}
+use Rattle.types.proofs.laws.Agree.{Stands-for}
 use Rattle.types.proofs.laws.TextRules.{text-rules}
 use Rattle.types.proofs.laws.Headline.{type-demand, type-early}
 use Rattle.conversation.specs.Conversation.{Event}
@@ -30,33 +31,19 @@ use Rattle.machine.proofs.laws.Edition.{safe-back}
 use Rattle.machine.proofs.claims.FitFewest.{fit-fewest}
 use Rattle.together.proofs.claims.FitsUnblamed.{fits-unblamed}
 use Rattle.report.proofs.claims.ReportsFit.{reports-fit, reports-no-fit, reports-fewest}
-use Rattle.demands.specs.Demands.{TextOf, ReadOfTexts, OneProtocol, DemandTwoOfTexts, EarlyOfTexts, BatchesOfTexts, DemandThreeOfTexts, EditionsOfTexts, ReportsOfTexts, FewestOfTexts, ReportsFewestOfTexts, UnblamedOfTexts}
+use Rattle.demands.specs.Demands.{ReadOfTexts, OneProtocol, DemandTwoOfTexts, EarlyOfTexts, BatchesOfTexts, DemandThreeOfTexts, EditionsOfTexts, ReportsOfTexts, FewestOfTexts, ReportsFewestOfTexts, UnblamedOfTexts}
 use Rattle.demands.proofs.laws.Likeness.{alike-itself, safe-like, unsafe-like, shortest-like}
 
 -- ---- one text
 
 pub read-of-texts : ReadOfTexts
-read-of-texts s = (
-  λ h. let x = read-spelt s (reads s) .0 (refl, h) in (x .0, record { short = x .1; spelt = x .2; legal = x .3 }),
-  λ x. ap (λ (r : Reading). r .question) (read-spelt s _ .1 (x .0, x .1 .short, x .1 .spelt, x .1 .legal, refl) .0),
-)
-
-module _ (s : List ℕ) (t : Protocol) (x : TextOf s t) where
-  is-read : reads s .question ≡ 0
-  is-read = read-of-texts s .1 (t, x)
-
-  writes : Writes s t
-  writes = writes-spelt s t .1 (x .short, x .spelt)
-
-  -- the type and the table that is read go on together
-  goes-along : Rules-alike (Stands-for (view (reads s .table))) (protocol-rules t) (table-rules (view (reads s .table)))
-  goes-along = text-rules s is-read t writes
+read-of-texts s = (λ h. its-protocol s h, λ x. is-read s (x .0) (x .1))
 
 pub one-protocol : OneProtocol
-one-protocol s p q x y = syntax-unique s p q (writes s p x) (writes s q y)
+one-protocol s p q x y = protocol-once s p q (x .spelt) (y .spelt)
 
 pub demand-two-of-texts : DemandTwoOfTexts
-demand-two-of-texts s t x sent = type-demand s (is-read s t x) t (writes s t x) sent
+demand-two-of-texts s t x sent = type-demand s t x sent
 
 pub batches-of-texts : BatchesOfTexts
 batches-of-texts s t x calls =
@@ -69,7 +56,7 @@ batches-of-texts s t x calls =
     }
 
 pub early-of-texts : EarlyOfTexts
-early-of-texts s p x sent = type-early s (is-read s p x) p (writes s p x) sent
+early-of-texts s p x sent = type-early s p x sent
 
 -- ---- two texts
 
@@ -82,24 +69,24 @@ module _ (protocol device : List ℕ) (p d : Protocol) (x : TextOf protocol p) (
 
   safe : Safe (protocol-rules d) (protocol-rules p) ↔ Safe (table-rules T) (table-rules U)
   safe =
-      safe-like (Stands-for T) (Stands-for U) (protocol-rules d) (table-rules T) (protocol-rules p) (table-rules U) (goes-along device d y)
-      (goes-along protocol p x)
+      safe-like (Stands-for T) (Stands-for U) (protocol-rules d) (table-rules T) (protocol-rules p) (table-rules U) (text-rules device d y)
+      (text-rules protocol p x)
 
   unsafe : Unsafe (protocol-rules d) (protocol-rules p) ↔ Unsafe (table-rules T) (table-rules U)
   unsafe =
-      unsafe-like (Stands-for T) (Stands-for U) (protocol-rules d) (table-rules T) (protocol-rules p) (table-rules U) (goes-along device d y)
-      (goes-along protocol p x)
+      unsafe-like (Stands-for T) (Stands-for U) (protocol-rules d) (table-rules T) (protocol-rules p) (table-rules U) (text-rules device d y)
+      (text-rules protocol p x)
 
   shortest : (K : ℕ) (vs : List Move) → Shortest (protocol-rules d) (protocol-rules p) K vs ↔ Shortest (table-rules T) (table-rules U) K vs
   shortest =
-      shortest-like (Stands-for T) (Stands-for U) (protocol-rules d) (table-rules T) (protocol-rules p) (table-rules U) (goes-along device d y)
-      (goes-along protocol p x)
+      shortest-like (Stands-for T) (Stands-for U) (protocol-rules d) (table-rules T) (protocol-rules p) (table-rules U) (text-rules device d y)
+      (text-rules protocol p x)
 
   -- the device's type against the protocol's table, which the monitor has
   beside : Safe (protocol-rules d) (protocol-rules p) ↔ Safe (protocol-rules d) (table-rules U)
   beside =
       safe-like (_≡_ {A = Ty}) (Stands-for U) (protocol-rules d) (protocol-rules d) (protocol-rules p) (table-rules U) (alike-itself (protocol-rules d))
-      (goes-along protocol p x)
+      (text-rules protocol p x)
 
 safe-unsafe : {D P X : Type 0} (d : Rules D) (p : Rules P) → Safe d p → Unsafe d p → X
 unfolding Safe Unsafe

@@ -16,7 +16,8 @@ use Rattle.table.specs.Table.{Table, Branch}
 use Rattle.grammar.specs.Token.{word-of, word-in}
 use Rattle.grammar.specs.Number.{Signed, signed-in, offset}
 use Rattle.grammar.specs.Reading.{Item, outset, edition, just, name, label, type, more, fields, field, low, high, more-fields, dot, share, Open, State, state, opens-type, admits, token-formed, grammar-allows, edition-known, name-bound, guarded, ranged, share-ranged, new-label, within, shares-add, sign-of, kind-of, a-branch, a-field, began, type-taken, taken, questions}
-use Rattle.grammar.specs.Grammar.{Tok, word, number, sign, sending, receiving, Kind, int, text, flag, SyntaxField, Share, Ty, stop, var, loop, choice, Br, last, also, letter, print-field, print-more, print-fields, print-share, print-head, print, print-br, print-opening, tok-of}
+use Rattle.grammar.specs.Grammar.{Tok, word, number, sign, sending, receiving, Kind, int, text, flag, SyntaxField, Share, Ty, stop, var, loop, choice, Br, last, also, letter, print-field, print-more, print-fields, print-share, print-head, print, print-br, print-opening}
+use Rattle.grammar.specs.TokOf.{tok-of}
 use Rattle.grammar.specs.declared.token.Token.{Token}
 use Rattle.grammar.proofs.laws.TokOf.{sign-kind, word-kind, number-kind, kind-sign, kind-word, kind-number}
 use types.Run.{OneOf}

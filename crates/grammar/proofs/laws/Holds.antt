@@ -9,12 +9,12 @@ use native.Mathlib.Omega.{arith}
 use lib.Dec.{leb}
 use lib.ListN.{length, getD, length-map, List·getD-map}
 use borrow.Author.Tests.{leb-true}
-use Rattle.grammar.proofs.laws.Questions.{branches-legal-br}
+use Rattle.grammar.proofs.laws.Questions.{fields-few-br}
 use Rattle.table.specs.Lists.{every, upto}
 use Rattle.table.specs.Table.{Field, Branch, Table}
 use Rattle.table.specs.View.{label-of, sort-of, states-of, branches-of, owner-at, word-at, sort-at, target-at, count-at, field-at, share-at, edition-of, branch-at, view, known}
 use Rattle.table.proofs.laws.Lists.{both, upto-every}
-use Rattle.grammar.specs.Grammar.{SyntaxField, Ty, stop, var, loop, choice, Br, last, also, Protocol, sorts, Scope, nothing-bound, bind, field-of, range-legal, fields-legal, branches, branches-br, table-of, branches-legal, Legal}
+use Rattle.grammar.specs.Grammar.{SyntaxField, Ty, stop, var, loop, choice, Br, last, also, Protocol, sorts, Scope, nothing-bound, bind, field-of, branches, branches-br, table-of, fields-few, Legal}
 use Rattle.grammar.specs.Token.{packed, word-of}
 use Rattle.grammar.specs.Filled.{padded, code-of, label-high, label-low, fours, columns, filled}
 use Rattle.grammar.specs.inner.Holds.{Formed, AllFormed, Holds}
@@ -51,29 +51,28 @@ holds-sized w T h = sized T (h .states) (h .branches) (h .shares)
 
 -- ---- the table of a legal type
 
-few-fields : (fs : List SyntaxField) → fields-legal fs ≡ true → length (map field-of fs) ≤ 4
-unfolding fields-legal
-few-fields fs h = omega (arith, leb-true (length fs) 4 (both (every range-legal fs) (leb (length fs) 4) h .1), length-map fs field-of)
+few : (fs : List SyntaxField) → leb (length fs) 4 ≡ true → length (map field-of fs) ≤ 4
+few fs h = omega (arith, leb-true (length fs) 4 h, length-map fs field-of)
 
 formed-append : (rs qs : List Branch) → AllFormed rs → AllFormed qs → AllFormed (rs ++ qs)
 formed-append [] qs f g = g
 formed-append (r ∷ rs) qs f g = (f .0, formed-append rs qs (f .1) g)
 
 mutual
-  formed : (t : Ty) (e : Scope) (n : ℕ) → branches-legal t ≡ true → Labelled t → AllFormed (branches t e n)
+  formed : (t : Ty) (e : Scope) (n : ℕ) → fields-few t ≡ true → Labelled t → AllFormed (branches t e n)
   formed stop e n h d = tt
   formed (var x) e n h d = tt
   formed (loop x t) e n h d = formed t (bind x n e) n h d
   formed (choice w bs) e n h d = formed-br bs e n (suc n) h d
 
-  formed-br : (bs : Br) (e : Scope) (o n : ℕ) → branches-legal-br bs ≡ true → LabelledBr bs → AllFormed (branches-br bs e o n)
+  formed-br : (bs : Br) (e : Scope) (o n : ℕ) → fields-few-br bs ≡ true → LabelledBr bs → AllFormed (branches-br bs e o n)
   formed-br (last l fs sh t) e o n h d =
-      let p = both (fields-legal fs) (branches-legal t) h in
-      (record { few = few-fields fs (p .0); bytes = ap label-of (d .0 .back) }, formed t e n (p .1) (d .1))
+      let p = both (leb (length fs) 4) (fields-few t) h in
+      (record { few = few fs (p .0); bytes = ap label-of (d .0 .back) }, formed t e n (p .1) (d .1))
   formed-br (also l fs sh t bs) e o n h d =
-      let q = both (fields-legal fs && branches-legal t) (branches-legal-br bs) h in
-      let p = both (fields-legal fs) (branches-legal t) (q .0) in (
-        record { few = few-fields fs (p .0); bytes = ap label-of (d .0 .back) },
+      let q = both (leb (length fs) 4 && fields-few t) (fields-few-br bs) h in
+      let p = both (leb (length fs) 4) (fields-few t) (q .0) in (
+        record { few = few fs (p .0); bytes = ap label-of (d .0 .back) },
         formed-append (branches t e n) (branches-br bs e o (n + length (sorts t))) (formed t e n (p .1) (d .1 .0))
             (formed-br bs e o (n + length (sorts t)) (q .1) (d .1 .1)),
       )

@@ -19,7 +19,9 @@ use Rattle.grammar.specs.Number.{Signed, signed-in}
 use Rattle.grammar.specs.declared.token.Class.{Class}
 use Rattle.grammar.specs.declared.token.Class.the-variants.{Space, Lower, Upper, Digit, Dot, Minus, Sign, Other}
 use Rattle.grammar.specs.declared.token.Token.{Token}
-use Rattle.grammar.specs.Grammar.{SyntaxField, Share, Ty, stop, var, loop, choice, Br, last, also, Protocol, Tok, word, number, sign, arrow, print-more, print-fields, print-share, print, print-br, print-opening, tok-of, Writes}
+use Rattle.grammar.specs.Grammar.{SyntaxField, Share, Ty, stop, var, loop, choice, Br, last, also, Protocol, Tok, word, number, sign, arrow, print-more, print-fields, print-share, print, print-br, print-opening}
+use Rattle.grammar.specs.TokOf.{tok-of}
+use Rattle.grammar.specs.inner.Writes.{Writes}
 use Rattle.grammar.proofs.laws.ClassOf.{code, class-test, upper-word}
 use Rattle.grammar.proofs.laws.Packed.{Label, label-word}
 

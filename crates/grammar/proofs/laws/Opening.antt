@@ -4,7 +4,7 @@ use mathlib.Core.Path.{_≡_, refl, sym, ap, _∙_}
 use mathlib.Core.Bool.{Bool, true, cond}
 use mathlib.Core.List.{List, [], _∷_, map}
 use mathlib.Core.Option.{Option, none, some}
-use Prim.Native.Nat.{ℕ, _<_}
+use Prim.Native.Nat.{ℕ}
 use native.Mathlib.Omega.{arith}
 use borrow.Author.Tests.{ne-eqb}
 use Rattle.table.specs.Lists.{first-no}
@@ -12,7 +12,8 @@ use Rattle.table.specs.Table.{Branch, Table}
 use Rattle.grammar.specs.Number.{Signed, in-edition}
 use Rattle.grammar.specs.Building.{empty-branch, stateless, set-edition, Built}
 use Rattle.grammar.specs.Reading.{Item, outset, edition, type, Open, State, state, start, token-formed, grammar-allows, edition-known, name-bound, guarded, ranged, share-ranged, new-label, within, shares-add, taken, run-tokens, questions}
-use Rattle.grammar.specs.Grammar.{Ty, Tok, number, sign, print, print-opening, tok-of, edition-named, opening-legal}
+use Rattle.grammar.specs.Grammar.{Ty, Tok, number, sign, print, print-opening, edition-named, opening-legal}
+use Rattle.grammar.specs.TokOf.{tok-of}
 use Rattle.grammar.specs.declared.token.Token.{Token}
 use Rattle.grammar.proofs.laws.Questions.{asked}
 use Rattle.grammar.proofs.laws.TokOf.{sign-kind, number-kind, kind-sign}
@@ -26,19 +27,19 @@ pub outset-same : (s : List ℕ) (K : List Item) (O : List Open) (b : Branch) (T
 unfolding first-no questions token-formed grammar-allows edition-known name-bound guarded ranged share-ranged new-label within shares-add taken
 outset-same s K O b T k h = (rw (ne-eqb _ _ h), rw (ne-eqb _ _ h))
 
-module _ (s : List ℕ) (q : ℕ) (below : q < 6) (E : List Item) (O : List Open) (b : Branch) (T : Table) where
+module _ (s : List ℕ) (q : ℕ) (E : List Item) (O : List Open) (b : Branch) (T : Table) where
   outset-one : (k : Token) → tok-of s k ≡ sign 69
       → (asked s (state (outset ∷ E) O b T) k ≡ 0) × (taken s (state (outset ∷ E) O b T) k ≡ state (edition ∷ type ∷ E) O b T)
   unfolding first-no questions token-formed grammar-allows edition-known name-bound guarded ranged share-ranged new-label within shares-add taken
   outset-one k e = let h : k .kind ≡ 69 = sign-kind s k 69 e in (rw h, rw h)
 
-  edition-one : (n : Signed) {us : List Tok}
+  edition-one : (n : Signed) {us : List Tok} → (q ≡ 23 → in-edition n ≡ true)
       → Goes s q (in-edition n ≡ true) (state (edition ∷ E) O b T) (number n ∷ us) (state E O b (set-edition T (n .value))) us
   unfolding first-no questions token-formed grammar-allows edition-known name-bound guarded ranged share-ranged new-label within shares-add taken
-  edition-one n = one s (λ k h.
+  edition-one n g = one s (λ k h.
       let w = number-kind s k n h in
       let a : asked s (state (edition ∷ E) O b T) k ≡ cond (in-edition n) 0 23 = rw (w .0, w .1) in
-      ((λ p. a ∙ ap (λ (x : Bool). cond x 0 23) p), (λ e. gate (in-edition n) 23 (omega arith) (rw a at e)), (λ p. ap (λ (m : Signed). state E O b (set-edition T (m .value))) (w .1))))
+      ((λ p. a ∙ ap (λ (x : Bool). cond x 0 23) p), (λ e. gate (in-edition n) 23 (omega arith) g (rw a at e)), (λ p. ap (λ (m : Signed). state E O b (set-edition T (m .value))) (w .1))))
 
   -- a type where no opening stands before it
   no-opening : (t : Ty) {P : Type 0} {st : State} {us : List Tok}
@@ -56,10 +57,10 @@ module _ (s : List ℕ) (q : ℕ) (below : q < 6) (E : List Item) (O : List Open
           no-edition t us (map (tok-of s) ks) (sym e ∙ ap (λ (x : Tok). x ∷ map (tok-of s) ks) (kind-sign s k 69 (λ x. omega arith) (λ x. omega arith) h))) in
           rw (a .0, a .1)
 
-pub opening-law : (s : List ℕ) (q : ℕ) → q < 6 → (o : Option Signed) (t : Ty) {P : Type 0} {st : State} {us : List Tok}
+pub opening-law : (s : List ℕ) (q : ℕ) (o : Option Signed) → (q ≡ 23 → opening-legal o ≡ true) → (t : Ty) {P : Type 0} {st : State} {us : List Tok}
     → Goes s q P (state (type ∷ []) [] empty-branch (stateless (edition-named o))) (print t us) st us
     → Goes s q ((opening-legal o ≡ true) × P) start (print-opening o (print t us)) st us
 unfolding set-edition
-opening-law s q below none t g = given s (λ p. (refl, p)) (λ p. p .1) (no-opening s q below [] [] empty-branch (stateless 1) t g)
-opening-law s q below (some n) t g =
-    past s (outset-one s q below [] [] empty-branch (stateless 1)) (after s (edition-one s q below (type ∷ []) [] empty-branch (stateless 1) n) (λ p. g))
+opening-law s q none i t g = given s (λ p. (refl, p)) (λ p. p .1) (no-opening s q [] [] empty-branch (stateless 1) t g)
+opening-law s q (some n) i t g =
+    past s (outset-one s q [] [] empty-branch (stateless 1)) (after s (edition-one s q (type ∷ []) [] empty-branch (stateless 1) n i) (λ p. g))

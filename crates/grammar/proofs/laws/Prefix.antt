@@ -15,7 +15,8 @@ use Rattle.grammar.specs.inner.Scanner.{token-at, tokens-from, tokens}
 use Rattle.grammar.specs.Building.{denied, Built}
 use Rattle.grammar.specs.Filled.{refused}
 use Rattle.grammar.specs.Reading.{Item, outset, edition, just, name, label, type, more, fields, field, low, high, more-fields, dot, share, State, state, admits, grammar-allows, taken, run-tokens, start, built, reads}
-use Rattle.grammar.specs.Grammar.{Tok, sign, Protocol, print, print-opening, print-text, tok-of}
+use Rattle.grammar.specs.Grammar.{Tok, sign, Protocol, print, print-opening, print-text}
+use Rattle.grammar.specs.TokOf.{tok-of}
 use Rattle.grammar.specs.declared.Reading.{Reading}
 use Rattle.grammar.specs.declared.token.Token.{Token}
 use Rattle.grammar.proofs.laws.TokenAt.{onward}

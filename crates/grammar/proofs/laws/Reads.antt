@@ -4,47 +4,44 @@ use mathlib.Core.Path.{_≡_, refl, sym, ap, _∙_}
 use mathlib.Core.Bool.{cond, Bool, true, false}
 use mathlib.Core.Logic.{_↔_}
 use mathlib.Core.List.{List, [], _∷_, map}
-use Prim.Native.Nat.{ℕ, _≤_, _<_}
+use Prim.Native.Nat.{ℕ, _≤_}
 use native.Mathlib.Omega.{arith}
 use lib.Dec.{leb}
 use lib.ListN.{length}
 use borrow.Author.Tests.{le-leb, leb-true}
 use Rattle.table.specs.Lists.{first-no}
 use Rattle.table.specs.View.{view, known, regular-of, sound-of}
-use Rattle.table.proofs.laws.Lists.{join, refuted}
+use Rattle.table.proofs.laws.Lists.{join}
 use Rattle.grammar.specs.inner.Scanner.{tokens}
 use Rattle.grammar.specs.Building.{empty-branch, stateless, Built, came, denied}
 use Rattle.grammar.specs.Filled.{came-out, filled, written}
-use Rattle.grammar.specs.Reading.{state, start, meaning, unguarded, stored, closed, token-formed, grammar-allows, edition-known, name-bound, guarded, ranged, share-ranged, new-label, within, shares-add, taken, run-tokens, built, reads, questions}
-use Rattle.grammar.specs.Grammar.{Protocol, sign, print-text, tok-of, Writes, nothing-bound, edition-named, table-of, recs-guarded, opening-legal, Legal}
+use Rattle.grammar.specs.Reading.{state, start, meaning, stored, closed, token-formed, grammar-allows, edition-known, name-bound, guarded, ranged, share-ranged, new-label, within, shares-add, taken, run-tokens, built, reads, questions}
+use Rattle.grammar.specs.Grammar.{Protocol, sign, print-text, nothing-bound, edition-named, table-of, opening-legal, Legal}
+use Rattle.grammar.specs.TokOf.{tok-of}
+use Rattle.grammar.specs.inner.Writes.{Writes}
 use Rattle.grammar.specs.declared.Reading.{Reading}
 use Rattle.grammar.specs.declared.token.Token.{Token}
 use Rattle.grammar.proofs.laws.Holds.{legal-holds, view-holds, known-holds}
 use Rattle.grammar.proofs.laws.TokOf.{sign-kind}
 use Rattle.grammar.proofs.laws.RunTokens.{Goes, first-is, rest-is, never-empty}
-use Rattle.grammar.proofs.laws.Good.{Good}
+use Rattle.grammar.proofs.laws.Good.{All, Good}
 use Rattle.grammar.proofs.laws.Print.{type-law}
 use Rattle.grammar.proofs.laws.Opening.{opening-law}
-use Rattle.grammar.proofs.laws.Legal.{good-legal, legal-good}
+use Rattle.grammar.proofs.laws.Legal.{good-legal, Passes, none-asked, passes-good, legal-passes, legal-good}
 use Rattle.grammar.proofs.laws.Prefix.{spells}
-use Rattle.grammar.proofs.laws.NameToken.{labels-legal}
+use Rattle.grammar.proofs.laws.NameToken.{Labelled, labels-legal}
 use Rattle.grammar.proofs.laws.TableOf.{legal-sound, legal-kept, legal-edition}
 use Rattle.table.specs.Table as T
 
 module _ (s : List ℕ) where
   -- the whole, up to the end of the text
-  whole : (q : ℕ) → q < 6 → (q ≡ 4 → ⊥) → (p : Protocol) → (q ≡ 5 → recs-guarded (p .type) ≡ true)
-      → Goes s q ((opening-legal (p .opening) ≡ true) × Good (p .type) [] 0 [] []) start (print-text p) (state [] [] empty-branch (table-of p)) (sign 0 ∷ [])
-  unfolding closed meaning nothing-bound stored table-of unguarded
-  whole q l n p g =
+  whole : (q : ℕ) (p : Protocol) → Labelled (p .type) → Passes q p
+      → Goes s q ((opening-legal (p .opening) ≡ true) × Good All (p .type) [] 0 [] []) start (print-text p) (state [] [] empty-branch (table-of p)) (sign 0 ∷ [])
+  unfolding closed meaning nothing-bound stored table-of
+  whole q p d g =
       let v = edition-named (p .opening) in
-      opening-law s q l (p .opening) (p .type)
-      (type-law s q l n v (p .type) [] [] empty-branch (stateless v) [] [] [] (sign 0 ∷ []) (λ e. (g e, λ x b. refl)) refl refl)
-
-  -- where it is read
-  through : (p : Protocol)
-      → Goes s 0 ((opening-legal (p .opening) ≡ true) × Good (p .type) [] 0 [] []) start (print-text p) (state [] [] empty-branch (table-of p)) (sign 0 ∷ [])
-  through p = whole 0 (omega arith) (λ e. omega arith) p (λ e. absurd (omega arith))
+      opening-law s q (p .opening) (g .edition) (p .type)
+      (type-law s q v (p .type) [] [] empty-branch (stateless v) [] [] [] (sign 0 ∷ []) (passes-good q p d g) refl refl)
 
   -- the end of the text
   ends : (p : Protocol) (ks : List Token) → map (tok-of s) ks ≡ sign 0 ∷ [] → run-tokens s (state [] [] empty-branch (table-of p)) ks ≡ came 0 0 (table-of p)
@@ -60,7 +57,8 @@ module _ (s : List ℕ) where
   -- a text of a legal protocol is read, into its table
   pub answered-table : (p : Protocol) → Writes s p → Legal p → built s ≡ came 0 0 (table-of p)
   answered-table p w l =
-      let a = through p .on (l .edition, legal-good p (labels-legal s p w) l) (tokens s) (w .written) in
+      let d = labels-legal s p w in
+      let a = whole 0 p d (legal-passes 0 p l) .on (l .edition, legal-good p d l) (tokens s) (w .written) in
       built-runs (w .short) ∙ a .2 ∙ ends p (a .0) (a .1)
 
   -- a text that is read is that of a legal protocol
@@ -71,9 +69,19 @@ module _ (s : List ℕ) where
       go : (b : Bool) → leb (length s) 8192 ≡ b → cond b (run-tokens s start (tokens s)) (denied 1 0) .question ≡ 0 → (p : Protocol) × Writes s p × Legal p
       go true e h =
           let p = spells s h in
-          let g = through (p .0) .only (tokens s) (p .1) h in
-          (p .0, record { short = leb-true (length s) 8192 e; written = p .1 }, good-legal (p .0) (g .0) (g .1))
+          let w : Writes s (p .0) = record { short = leb-true (length s) 8192 e; written = p .1 } in
+          let g = whole 0 (p .0) (labels-legal s (p .0) w) (none-asked (p .0)) .only (tokens s) (p .1) h in
+          (p .0, w, good-legal (p .0) (g .0) (g .1))
       go false e h = absurd (omega arith)
+
+-- a text that 1 does not refuse is not too long
+pub not-long : (s : List ℕ) → (reads s .question ≡ 1 → ⊥) → length s ≤ 8192
+unfolding reads built denied
+not-long s h = go (leb (length s) 8192) refl h
+  where
+    go : (b : Bool) → leb (length s) 8192 ≡ b → (cond b (run-tokens s start (tokens s)) (denied 1 0) .question ≡ 1 → ⊥) → length s ≤ 8192
+    go true e h = leb-true (length s) 8192 e
+    go false e h = absurd (h refl)
 
 -- the table's words, filled up with 0
 pub read-filled : (s : List ℕ) (p : Protocol) → Writes s p → Legal p → reads s ≡ came-out 0 0 (filled (table-of p))
@@ -104,14 +112,13 @@ read-seen s T = (
   (λ h. (ap (λ (r : Reading). r .question) (read-filled s (h .0) (h .1) (h .2)), read-table s (h .0) (h .1) (h .2) ∙ sym (h .3))),
 )
 
--- A text of a type that is refused by question 5 has a `rec` that is not guarded.
-pub five-unguarded : (s : List ℕ) → reads s .question ≡ 5 → (p : Protocol) → Writes s p → recs-guarded (p .type) ≡ false
+-- A text of a protocol that passes the tests of question q is not refused by q.
+pub passes-read : (s : List ℕ) (p : Protocol) → Writes s p → (q : ℕ) → reads s .question ≡ q → Passes q p → reads s .question ≡ 0
 unfolding reads
-five-unguarded s h p w = refuted (recs-guarded (p .type)) (λ g.
-    let z : run-tokens s start (tokens s) .question ≡ 5 = ap (λ (b : Built). b .question) (sym (built-runs s (w .short))) ∙ h in
-    let o = whole s 5 (omega arith) (λ e. omega arith) p (λ e. g) .only (tokens s) (w .written) z in
-    let l = good-legal p (o .0) (o .1) in
-    omega (arith, ap (λ (r : Reading). r .question) (read-filled s p w l)))
+passes-read s p w q h f =
+    let z : run-tokens s start (tokens s) .question ≡ q = ap (λ (b : Built). b .question) (sym (built-runs s (w .short))) ∙ h in
+    let o = whole s q p (labels-legal s p w) f .only (tokens s) (w .written) z in
+    ap (λ (r : Reading). r .question) (read-filled s p w (good-legal p (o .0) (o .1)))
 
 -- What is read is sound, its shares keep their rules, and its edition is 1 or 2 (question 9).
 pub read-sound : (s : List ℕ) → reads s .question ≡ 0 → sound-of (reads s .table) ≡ true

@@ -11,7 +11,8 @@ use borrow.Author.Tests.{eq-eqb, eqb-true, eqb-false}
 use Rattle.grammar.proofs.laws.Questions.{asked}
 use Rattle.grammar.specs.Building.{denied, Built}
 use Rattle.grammar.specs.Reading.{State, taken, run-tokens}
-use Rattle.grammar.specs.Grammar.{Tok, tok-of}
+use Rattle.grammar.specs.Grammar.{Tok}
+use Rattle.grammar.specs.TokOf.{tok-of}
 use Rattle.grammar.specs.declared.token.Token.{Token}
 
 -- Over tokens ks that are ts, reading goes on from st: where P holds, in the state st' over tokens that are us; else it ends with a no to

@@ -12,15 +12,15 @@ use lib.Dec.{leb, eqb}
 use lib.ListN.{length, getD, length-append, length-map, List·getD-append}
 use lib.Seq.{getD-append-add}
 use borrow.Author.Tests.{not-true, lt-ltb, le-leb, eq-eqb, ne-eqb, eqb-true, eqb-false}
-use Rattle.grammar.proofs.laws.Questions.{recs-guarded-br, branches-legal-br, labels-new-br}
+use Rattle.grammar.proofs.laws.Questions.{recs-guarded-br, ranges-legal-br, fields-few-br, labels-new-br}
 use Rattle.table.specs.Lists.{every, some-one, same}
 use Rattle.table.specs.Table.{sort, within-kind, legal-field, is-choice, legal-branch, clash, labels-differ, choices-own, sound, of-choice, shares-right, shares-kept, known-edition}
 use Rattle.table.specs.View.{label-of}
-use Rattle.table.proofs.laws.Lists.{both, join, or-left, or-right, never, refuted, left-fails, right-fails, every-append, upto-every}
+use Rattle.table.proofs.laws.Lists.{both, join, all-three, or-left, or-right, never, refuted, left-fails, right-fails, every-append, upto-every}
 use Rattle.table.proofs.laws.View.{label-eq, same-eq}
 use Rattle.grammar.specs.Token.{one-of}
 use Rattle.grammar.specs.Number.{Signed, offset, in-kind}
-use Rattle.grammar.specs.Grammar.{Way, sending, receiving, SyntaxField, Share, Ty, stop, var, loop, choice, Br, last, also, Protocol, kind-code, way-sort, field-of, sorts, sorts-br, Scope, nothing-bound, bind, or-else, first-state, branch-for, branches, branches-br, shares, edition-named, table-of, names-bound, names-bound-br, bare, recs-guarded, range-legal, fields-legal, branches-legal, label-among, labels-new, opening-legal, Legal}
+use Rattle.grammar.specs.Grammar.{Way, sending, receiving, SyntaxField, Share, Ty, stop, var, loop, choice, Br, last, also, Protocol, kind-code, way-sort, field-of, sorts, sorts-br, Scope, nothing-bound, bind, or-else, first-state, branch-for, branches, branches-br, shares, edition-named, table-of, names-bound, names-bound-br, bare, recs-guarded, range-legal, ranges-legal, fields-few, label-among, labels-new, opening-legal, Legal}
 use Rattle.grammar.proofs.laws.Good.{bare-other}
 use Rattle.grammar.proofs.laws.Legal.{later}
 use Rattle.grammar.proofs.laws.OfChoice.{all-right}
@@ -283,41 +283,41 @@ module _ (U : T.Table) where
   target-in (choice w bs) e n h s g = omega arith
 
   legal-made : (l : ℕ) (fs : List SyntaxField) (o n : ℕ) → o < length (U .sorts) → is-choice (sort U o) ≡ true → n < length (U .sorts)
-      → Label l → fields-legal fs ≡ true → legal-branch U (branch-for o l fs n) ≡ true
-  unfolding legal-branch fields-legal
-  legal-made l fs o n a b c d f =
-      let p = both (every range-legal fs) (leb (length fs) 4) f in
-      join (join (join (join (join (lt-ltb o (length (U .sorts)) a) b) (lt-ltb n (length (U .sorts)) c)) (d .legal)) (ap (λ (i : ℕ). leb i 4) (length-map fs field-of) ∙ p .1)) (every-field fs (p .0))
+      → Label l → every range-legal fs ≡ true → leb (length fs) 4 ≡ true → legal-branch U (branch-for o l fs n) ≡ true
+  unfolding legal-branch
+  legal-made l fs o n a b c d f g =
+      join (join (join (join (join (lt-ltb o (length (U .sorts)) a) b) (lt-ltb n (length (U .sorts)) c)) (d .legal)) (ap (λ (i : ℕ). leb i 4) (length-map fs field-of) ∙ g)) (every-field fs f)
 
   mutual
     unfolding every
 
     all-legal : (t : Ty) (e : Scope) (xs : List ℕ) (n : ℕ) → At n (sorts t) → n + length (sorts t) ≤ length (U .sorts) → (0 < length (sorts t) → Scoped xs e) → names-bound t xs ≡ true
-        → recs-guarded t ≡ true → branches-legal t ≡ true → Labelled t → every (legal-branch U) (branches t e n) ≡ true
-    all-legal stop e xs n a h s c g l d = refl
-    all-legal (var x) e xs n a h s c g l d = refl
-    all-legal (loop x t) e xs n a h s c g l d =
-        all-legal t (bind x n e) (x ∷ xs) n a h (λ p. scoped-more x n xs e (omega arith) (s p)) c (both (not (bare t x)) (recs-guarded t) g .1) l d
-    all-legal (choice w bs) e xs n a h s c g l d =
-        all-legal-br bs e xs n (suc n) (at-next n (way-sort w) (sorts-br bs) a) (omega arith) (ap is-choice (at-head n (way-sort w) (sorts-br bs) a) ∙ choice-is w) (omega arith) (s (omega arith)) c g l d
+        → recs-guarded t ≡ true → ranges-legal t ≡ true → fields-few t ≡ true → Labelled t → every (legal-branch U) (branches t e n) ≡ true
+    all-legal stop e xs n a h s c g l m d = refl
+    all-legal (var x) e xs n a h s c g l m d = refl
+    all-legal (loop x t) e xs n a h s c g l m d =
+        all-legal t (bind x n e) (x ∷ xs) n a h (λ p. scoped-more x n xs e (omega arith) (s p)) c (both (not (bare t x)) (recs-guarded t) g .1) l m d
+    all-legal (choice w bs) e xs n a h s c g l m d =
+        all-legal-br bs e xs n (suc n) (at-next n (way-sort w) (sorts-br bs) a) (omega arith) (ap is-choice (at-head n (way-sort w) (sorts-br bs) a) ∙ choice-is w) (omega arith) (s (omega arith)) c g l m d
 
     all-legal-br : (bs : Br) (e : Scope) (xs : List ℕ) (o n : ℕ) → At n (sorts-br bs) → o < length (U .sorts) → is-choice (sort U o) ≡ true
-        → n + length (sorts-br bs) ≤ length (U .sorts) → Scoped xs e → names-bound-br bs xs ≡ true → recs-guarded-br bs ≡ true → branches-legal-br bs ≡ true → LabelledBr bs
+        → n + length (sorts-br bs) ≤ length (U .sorts) → Scoped xs e → names-bound-br bs xs ≡ true → recs-guarded-br bs ≡ true → ranges-legal-br bs ≡ true → fields-few-br bs ≡ true → LabelledBr bs
         → every (legal-branch U) (branches-br bs e o n) ≡ true
-    all-legal-br (last k fs sh t) e xs o n a b i h s c g l d =
-        let w = both (fields-legal fs) (branches-legal t) l in
-        join (legal-made k fs o (first-state t e n) b i (target-in t e n h (λ x b. s x (bare-bound t xs x c b)) g) (d .0) (w .0)) (all-legal t e xs n a h (λ p. s) c g (w .1) (d .1))
-    all-legal-br (also k fs sh t bs) e xs o n a b i h s c g l d =
+    all-legal-br (last k fs sh t) e xs o n a b i h s c g l m d =
+        let w = both (every range-legal fs) (ranges-legal t) l in
+        let y = both (leb (length fs) 4) (fields-few t) m in
+        join (legal-made k fs o (first-state t e n) b i (target-in t e n h (λ x b. s x (bare-bound t xs x c b)) g) (d .0) (w .0) (y .0)) (all-legal t e xs n a h (λ p. s) c g (w .1) (y .1) (d .1))
+    all-legal-br (also k fs sh t bs) e xs o n a b i h s c g l m d =
         let N = n + length (sorts t) in
         let len = length-append (sorts t) (sorts-br bs) in
-        let u = both (fields-legal fs && branches-legal t) (branches-legal-br bs) l in
-        let w = both (fields-legal fs) (branches-legal t) (u .0) in
+        let w = all-three (every range-legal fs) (ranges-legal t) (ranges-legal-br bs) l in
+        let y = all-three (leb (length fs) 4) (fields-few t) (fields-few-br bs) m in
         let p = both (recs-guarded t) (recs-guarded-br bs) g in
         let q = both (names-bound t xs) (names-bound-br bs xs) c in
-        join (legal-made k fs o (first-state t e n) b i (target-in t e n (omega (arith, len)) (λ x b. s x (bare-bound t xs x (q .0) b)) (p .0)) (d .0) (w .0))
+        join (legal-made k fs o (first-state t e n) b i (target-in t e n (omega (arith, len)) (λ x b. s x (bare-bound t xs x (q .0) b)) (p .0)) (d .0) (w .0) (y .0))
         (every-append (legal-branch U) (branches t e n) (branches-br bs e o N)
-        (all-legal t e xs n (at-left n (sorts t) (sorts-br bs) a) (omega (arith, len)) (λ p. s) (q .0) (p .0) (w .1) (d .1 .0))
-        (all-legal-br bs e xs o N (at-right n (sorts t) (sorts-br bs) a) b i (omega (arith, len)) s (q .1) (p .1) (u .1) (d .1 .1)))
+        (all-legal t e xs n (at-left n (sorts t) (sorts-br bs) a) (omega (arith, len)) (λ p. s) (q .0) (p .0) (w .1) (y .1) (d .1 .0))
+        (all-legal-br bs e xs o N (at-right n (sorts t) (sorts-br bs) a) b i (omega (arith, len)) s (q .1) (p .1) (w .2) (y .2) (d .1 .1)))
 
 -- ---- the theorems
 
@@ -331,7 +331,7 @@ legal-sound p f d =
     (join
     (join
     (join (join (le-leb 1 n (omega arith)) (le-leb n 32 (f .states))) (le-leb (length (branches t nothing-bound 0)) 128 (f .branches)))
-    (all-legal (table-of p) t nothing-bound [] 0 (λ k h. ap (λ (i : ℕ). getD (sorts t) i T.ends) (none-more k)) (omega arith) (λ p x h. absurd (false≢true h)) (f .bound) (f .guarded) (f .fields) d))
+    (all-legal (table-of p) t nothing-bound [] 0 (λ k h. ap (λ (i : ℕ). getD (sorts t) i T.ends) (none-more k)) (omega arith) (λ p x h. absurd (false≢true h)) (f .bound) (f .guarded) (f .ranges) (f .fields) d))
     (owns t nothing-bound 0 (branches t nothing-bound 0) (λ g h. h)))
     (differ t nothing-bound 0 d (f .labels))
   where

@@ -10,7 +10,8 @@ use lib.Dec.{eqb}
 use borrow.Author.Tests.{eq-eqb, ne-eqb, eqb-true}
 use Rattle.grammar.specs.Token.{word-in}
 use Rattle.grammar.specs.Number.{Signed, signed-in}
-use Rattle.grammar.specs.Grammar.{Tok, word, number, sign, tok-of}
+use Rattle.grammar.specs.Grammar.{Tok, word, number, sign}
+use Rattle.grammar.specs.TokOf.{tok-of}
 use Rattle.grammar.specs.declared.token.Token.{Token}
 
 -- what a token is as the grammar sees it

@@ -6,7 +6,8 @@ use mathlib.Core.Option.{Option, none, some}
 use Prim.Native.Nat.{ℕ}
 use native.Mathlib.Omega.{arith}
 use Rattle.grammar.specs.Number.{Signed}
-use Rattle.grammar.specs.Grammar.{sending, receiving, Kind, int, text, flag, SyntaxField, Share, Ty, stop, var, loop, choice, Br, last, also, Protocol, Tok, word, number, sign, letter, print-field, print-more, print-fields, print-share, print-head, print, print-br, print-opening, print-text, Writes}
+use Rattle.grammar.specs.Grammar.{sending, receiving, Kind, int, text, flag, SyntaxField, Share, Ty, stop, var, loop, choice, Br, last, also, Protocol, Tok, word, number, sign, letter, print-field, print-more, print-fields, print-share, print-head, print, print-br, print-opening, print-text}
+use Rattle.grammar.specs.inner.Writes.{Writes}
 use Rattle.grammar.proofs.laws.RunTokens.{first-is, rest-is}
 use Rattle.grammar.proofs.laws.TokOf.{tag, word-in-is, number-in, sign-in}
 

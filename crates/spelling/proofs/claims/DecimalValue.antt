@@ -1,6 +1,6 @@
 -- The digits that the speller writes have the number's value.
 -- Assumes nothing.
-use Prim.Native.Nat.{suc, _-_}
+use Prim.Native.Nat.{suc}
 use native.Mathlib.Omega.{arith}
 use Rattle.spelling.specs.TextTheorems.{DecimalValue}
 use Rattle.spelling.proofs.laws.Speller.{decimal-is}

@@ -18,7 +18,8 @@ use Rattle.grammar.specs.Building.{denied}
 use Rattle.grammar.specs.Filled.{refused, written}
 use Rattle.grammar.specs.Reading.{State, token-formed, grammar-allows, edition-known, name-bound, guarded, ranged, share-ranged, new-label, within, shares-add, questions, start, run-tokens, built, reads}
 use Rattle.grammar.proofs.laws.Questions.{asked}
-use Rattle.grammar.specs.Grammar.{Protocol, Tok, word, number, sign, print-text, tok-of}
+use Rattle.grammar.specs.Grammar.{Protocol, Tok, word, number, sign, print-text}
+use Rattle.grammar.specs.TokOf.{tok-of}
 use Rattle.grammar.specs.declared.Reading.{Reading}
 use Rattle.grammar.specs.declared.token.Token.{Token}
 use Rattle.grammar.proofs.laws.TokOf.{kind-sign}
@@ -27,7 +28,7 @@ use Rattle.grammar.proofs.laws.Prefix.{Forbidden, three}
 use Rattle.spelling.specs.Spelling.{Spelt, a-name}
 use Rattle.spelling.specs.Places.{Placed, ran-out, malformed, a-blank, a-token}
 use Rattle.spelling.specs.Speller.{spell, Writable}
-use Rattle.spelling.specs.TextTheorems.{WellFormed}
+use Rattle.spelling.specs.Scanned.{WellFormed}
 use Rattle.spelling.specs.Refusals.{At, upto-before, upto-here, RefusedMeans, TwoMeans, ThreeMeans}
 use Rattle.spelling.proofs.laws.StandsAt.{next-here, past-here, found}
 use Rattle.spelling.proofs.claims.SpeltScanned.{spelt-scanned}

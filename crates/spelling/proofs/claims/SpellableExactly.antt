@@ -1,13 +1,9 @@
 -- Which protocols have a text, and that the speller's is read.
 -- Assumes nothing.
-use mathlib.Core.Path.{refl}
-use Prim.Native.Nat.{_-_}
-use Rattle.grammar.specs.Filled.{came-out, filled}
-use Rattle.grammar.specs.Grammar.{table-of}
 use Rattle.spelling.specs.Speller.{spell}
 use Rattle.spelling.specs.TextTheorems.{SpellableExactly, SpellRead}
-use Rattle.spelling.proofs.claims.ReadExactly.{read-spelt}
 use Rattle.spelling.proofs.laws.Speller.{spell-spelt}
+use Rattle.spelling.proofs.laws.TextOf.{read-into}
 use Rattle.spelling.proofs.laws.Spellable.{spelt-written, text-written}
 
 -- A protocol has a text exactly when its names, labels and numbers can be written.
@@ -16,4 +12,4 @@ spellable-exactly p = ((λ h. (spell p, spell-spelt p h)), (λ h. text-written p
 
 -- A legal protocol that can be written is read from the speller's text, if that is not too long.
 pub spell-read : SpellRead
-spell-read p h l m = read-spelt (spell p) (came-out 0 0 (filled (table-of p))) .1 (p, m, spell-spelt p h, l, refl) .0
+spell-read p h l m = read-into (spell p) p (record { short = m; spelt = spell-spelt p h; legal = l })

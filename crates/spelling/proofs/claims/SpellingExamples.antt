@@ -9,10 +9,11 @@ use Rattle.table.specs.Table.{letter-or-digit}
 use Rattle.grammar.specs.Token.{packed, word-of}
 use Rattle.grammar.specs.inner.Scanner.{class-of, run-of, run-end, word-kind, word-token, name-token, number-kind, number-token, dots-token, begin-at, token-at, tokens-from, tokens}
 use Rattle.grammar.specs.Number.{signed-of, value-of}
-use Rattle.grammar.specs.Grammar.{stop, Tok, sign, tok-of}
+use Rattle.grammar.specs.Grammar.{stop, Tok, sign}
+use Rattle.grammar.specs.TokOf.{tok-of}
 use Rattle.grammar.proofs.laws.TokOf.{tag, sign-in}
 use Rattle.spelling.specs.Spelling.{Spelt}
-use Rattle.spelling.specs.TextTheorems.{WellFormed}
+use Rattle.spelling.specs.Scanned.{WellFormed}
 use Rattle.spelling.specs.SpellingExamples.{plus, unopened, P-type, two-shares, Examples}
 use Rattle.spelling.proofs.claims.SpeltScanned.{spelt-scanned}
 use Rattle.spelling.proofs.laws.WellFormed.{text-formed}

@@ -1,12 +1,12 @@
 -- What a text spells is what the scanner finds, where no token is malformed.
 -- Assumes nothing.
 use mathlib.Core.Path.{refl, sym, subst}
-use Prim.Native.Nat.{suc, _-_}
+use Prim.Native.Nat.{suc}
 use native.Mathlib.Omega.{arith}
 use lib.ListN.{length}
 use Rattle.grammar.specs.inner.Scanner.{tokens}
 use Rattle.spelling.specs.Spelling.{Spelt}
-use Rattle.spelling.specs.TextTheorems.{WellFormed, SpeltScanned}
+use Rattle.spelling.specs.Scanned.{WellFormed, SpeltScanned}
 use Rattle.spelling.proofs.laws.Spelling.{found-spelt, spelt-formed, spelt-found}
 
 -- A text spells tokens exactly when the scanner finds them in it and none of them is malformed.

@@ -12,7 +12,8 @@ use Rattle.grammar.proofs.laws.Questions.{asked}
 use Rattle.table.specs.Table.{Table}
 use Rattle.grammar.specs.Token.{word-in}
 use Rattle.grammar.specs.Number.{Signed, signed-in, offset, in-kind, in-share, in-edition}
-use Rattle.grammar.specs.Grammar.{Tok, word, number, sign, tok-of, or-else}
+use Rattle.grammar.specs.Grammar.{Tok, word, number, sign, or-else}
+use Rattle.grammar.specs.TokOf.{tok-of}
 use Rattle.grammar.specs.Building.{label-used, denied}
 use Rattle.grammar.specs.Reading.{Item, outset, edition, just, name, label, type, more, fields, field, low, high, more-fields, dot, share, Open, State, state, open-in, table-in, next-item, meaning, unguarded, owner-in, admits, as-type, is-found, number-in-range, as-share, as-label, token-formed, grammar-allows, as-edition, edition-known, name-bound, guarded, ranged, share-ranged, new-label, within, shares-add, target, began, taken, run-tokens, questions}
 use Rattle.grammar.specs.declared.token.Token.{Token}

@@ -15,7 +15,8 @@ use Rattle.table.proofs.laws.Lists.{both, join}
 use Rattle.table.proofs.laws.View.{same-eq}
 use Rattle.grammar.specs.Token.{token}
 use Rattle.grammar.specs.inner.Scanner.{is-space, class-of, run-end, word-kind, word-token, name-token, number-kind, number-token, dots-token, begin-at, token-at, tokens-from}
-use Rattle.grammar.specs.Grammar.{Tok, number, sign, tok-of}
+use Rattle.grammar.specs.Grammar.{Tok, number, sign}
+use Rattle.grammar.specs.TokOf.{tok-of}
 use Rattle.grammar.specs.declared.token.Class.{Class}
 use Rattle.grammar.specs.declared.token.Class.the-variants.{Space, Lower, Upper, Digit, Dot, Minus, Sign, Other}
 use Rattle.grammar.specs.declared.token.Token.{Token}
@@ -25,7 +26,7 @@ use Rattle.grammar.proofs.laws.TokOf.{tag, sign-in, kind-sign}
 use Rattle.table.specs.Ascii.{ascii}
 use Rattle.spelling.specs.Spelling.{a-digit, dot, blank, sign-tokens, dot-tokens, word-tokens, Listed, Spells, a-sign, a-dot, a-word, a-name, a-zero, a-number, a-negative, EndsRun, Spelt, ran-out, a-blank, a-token}
 use Rattle.spelling.specs.Places.{Begins}
-use Rattle.spelling.specs.TextTheorems.{WellFormed}
+use Rattle.spelling.specs.Scanned.{WellFormed}
 use Rattle.spelling.proofs.laws.Classes.{Seen, seen, space-blank}
 use Rattle.spelling.proofs.laws.StandsAt.{inside, byte-here, next-here, part-here, past-here, run-here, Found, found, Each, each-listed}
 

@@ -16,7 +16,8 @@ use Rattle.table.proofs.laws.Lists.{both, join, never}
 use Rattle.grammar.specs.Token.{one-of, part, token, word-of}
 use Rattle.grammar.specs.inner.Scanner.{is-space, class-of, run-of, run-end, word-kind, word-token, name-token, number-kind, number-token, dots-token, begin-at, token-at}
 use Rattle.grammar.specs.Number.{value-of, signed-of}
-use Rattle.grammar.specs.Grammar.{Tok, word, number, sign, tok-of}
+use Rattle.grammar.specs.Grammar.{Tok, word, number, sign}
+use Rattle.grammar.specs.TokOf.{tok-of}
 use Rattle.grammar.specs.declared.token.Class.{Class}
 use Rattle.grammar.specs.declared.token.Class.the-variants.{Lower, Upper, Digit, Dot, Minus, Sign}
 use Rattle.grammar.specs.declared.token.Token.{Token}

@@ -6,7 +6,7 @@ use Rattle.table.proofs.laws.Lists.{never}
 use Rattle.grammar.specs.Token.{one-of}
 use Rattle.grammar.specs.Grammar.{Protocol, Tok, print-text}
 use Rattle.grammar.proofs.laws.TokOf.{tag, sign-in}
-use Rattle.spelling.specs.TextTheorems.{WellFormed}
+use Rattle.spelling.specs.Scanned.{WellFormed}
 use Rattle.spelling.proofs.laws.Prints.{fixed, text-holds, of-number, of-all}
 
 pub text-formed : (p : Protocol) → WellFormed (print-text p)

@@ -3,7 +3,6 @@
 use mathlib.Core.Path.{ap, _∙_}
 use Rattle.table.proofs.laws.View.{sound-facts}
 use Rattle.table.specs.View.{view, turned, dual-answer, dual-of, DualSeen, DualTwice}
-use Rattle.table.specs.Table as T
 use Rattle.table.proofs.laws.DualOf.{turned-sound, turned-twice, view-turned}
 
 -- of a sound table the call gives document 01's dual

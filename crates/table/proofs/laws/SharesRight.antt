@@ -17,7 +17,8 @@ use Rattle.bits.proofs.laws.Digits.{lt-or-ge, same-or}
 use Rattle.table.specs.Lists.{every, upto, sum-of}
 use Rattle.table.specs.Table.{Branch, of-choice, shares-right, shares-kept}
 use Rattle.table.specs.View.{states-of, branches-of, owner-at, share-at, sort-at, sort-of, branch-at, view}
-use Rattle.table.specs.inner.Scans.{all, Unshared, Owned, added, weight-of, weights, right-sum}
+use Rattle.table.specs.Sound.{added}
+use Rattle.table.specs.inner.Scans.{all, Unshared, Owned, weight-of, weights, right-sum}
 use Rattle.table.proofs.laws.Lists.{both, join, alike, either, implies, all-more, all-yes, all-at, all-by, all-same, upto-length, every-upto, upto-every}
 
 -- ---- the numbers of a choice
@@ -203,7 +204,7 @@ right-most t n i e k l o =
     (either (every (λ w. eqb w 0) ws) (every (λ w. leb 1 w && leb w 1000) ws && eqb (sum-of ws) 1000) e)
 
 module _ (t : List ℕ) (n : ℕ) (whole : n ≡ branches-of t) where
-  kept-is : shares-kept (view t) ≡ every (λ i. shares-right (shares-of t n i)) (upto (states-of t) (λ i. i))
+  pub kept-is : shares-kept (view t) ≡ every (λ i. shares-right (shares-of t n i)) (upto (states-of t) (λ i. i))
   unfolding shares-kept view
   kept-is =
       ap₂ (λ m b. every (λ i. shares-right (of-choice i (upto b (branch-at t)) (upto b (share-at t)))) (upto m (λ i. i)))

@@ -284,18 +284,20 @@ module _ (t : List ℕ) where
   pub sound-facts : sound-of t ≡ true → Facts t
   sound-facts e = facts (but-shares (sound-regular e))
 
-  -- labels of one state differ as lists of bytes, too
-  pub labels-apart : sound-of t ≡ true → (i j : ℕ) → i < j → j < branches-of t → owner-at t i ≡ owner-at t j
-      → label-of (word-at t i) ≡ label-of (word-at t j) → ⊥
+  -- the labels of one state differ as lists of bytes
+  abbrev pub Apart : Type 0
+  Apart = (i j : ℕ) → i < j → j < branches-of t → owner-at t i ≡ owner-at t j → label-of (word-at t i) ≡ label-of (word-at t j) → ⊥
+
+  pub labels-apart : sound-of t ≡ true → Apart
   unfolding view clash
   labels-apart e i j l m p q =
       never (join (eq-eqb (owner-at t i) (owner-at t j) p)
       (subst (λ w. same (label-of (word-at t i)) w ≡ true) q (same-refl (label-of (word-at t i)))))
       (differ-upto (branches-of t) (branch-at t) (tests (but-shares (sound-regular e)) .apart) i j l m)
 
-  pub facts-sound : ((k : ℕ) → k < branches-of t → Word (word-at t k)) → Facts t → (known t && T.sound (view t)) ≡ true
+  pub facts-apart : Apart → Facts t → (known t && T.sound (view t)) ≡ true
   unfolding known T.sound view legal-branch clash
-  facts-sound small f =
+  facts-apart differ f =
       join (upto-every (λ c. leb c 2) (states-of t) (λ i. sort-at t i) (λ i l. le-leb (sort-at t i) 2 (f .codes i l)))
       (join (join (join (join (join
       (le-leb 1 (length (view t .sorts)) (rw sorts-of (f .some)))
@@ -320,16 +322,17 @@ module _ (t : List ℕ) where
           let y = f .own i l (choice-code (sort-at t i) c) in
           upto-some (λ b. eqb (b .owner) (0 + i)) (branches-of t) (branch-at t) (y .0) (y .1) (eq-eqb (owner-at t (y .0)) (0 + i) (y .2 ∙ sym (none-more i)))
 
-      before : {i j : ℕ} → i < j → j < branches-of t → i < branches-of t
-      before l m = omega arith
-
       apart : (i j : ℕ) → i < j → j < branches-of t → clash (branch-at t i) (branch-at t j) ≡ false
       apart i j l m =
           refuted (clash (branch-at t i) (branch-at t j))
           (λ e.
           let p = both (eqb (owner-at t i) (owner-at t j)) (same (label-of (word-at t i)) (label-of (word-at t j))) e in
-          f .differ i j l m (eqb-true (owner-at t i) (owner-at t j) (p .0))
-          (label-eq (word-at t i) (word-at t j) (small i (before l m)) (small j m) (same-eq (label-of (word-at t i)) (label-of (word-at t j)) (p .1))))
+          differ i j l m (eqb-true (owner-at t i) (owner-at t j) (p .0)) (same-eq (label-of (word-at t i)) (label-of (word-at t j)) (p .1)))
+
+  -- words of 64 bits are their bytes
+  pub facts-sound : ((k : ℕ) → k < branches-of t → Word (word-at t k)) → Facts t → (known t && T.sound (view t)) ≡ true
+  facts-sound small f =
+      facts-apart (λ i j l m o e. f .differ i j l m o (label-eq (word-at t i) (word-at t j) (small i (omega arith)) (small j m) e)) f
 
   -- a return of false
   pub not-regular : (Facts t → ⊥) → false ≡ regular-of t

@@ -13,7 +13,8 @@ use borrow.Author.Tests.{eq-eqb, ne-eqb, le-leb, lt-leb, ltb-true, ltb-false}
 use Rattle.table.specs.Lists.{upto}
 use Rattle.table.specs.Table.{of-choice, shares-right}
 use Rattle.table.specs.View.{owner-at, word-at, share-at, branch-at}
-use Rattle.table.specs.inner.Scans.{added, weight-of, weights, right-sum}
+use Rattle.table.specs.Sound.{added}
+use Rattle.table.specs.inner.Scans.{weight-of, weights, right-sum}
 use Rattle.table.proofs.laws.Lists.{right-fails, refuted, never}
 use Rattle.table.proofs.laws.SharesRight.{shares-of, sum-right, right-most}
 use Rattle.text.specs.inner.Stores.{any-label}

@@ -3,15 +3,21 @@
 -- Assumes nothing.
 use mathlib.Core.Path.{_≡_, refl, sym, ap, subst, _∙_}
 use mathlib.Core.Bool.{Bool, true, false, not, _&&_, cond, true≢false, false≢true}
-use mathlib.Core.List.{List}
+use mathlib.Core.Logic.{_⊎_, inl, inr}
+use mathlib.Core.List.{List, _∷_}
 use Prim.Native.Nat.{ℕ, zero, suc}
 use native.Mathlib.Omega.{arith}
 use lib.Dec.{eqb}
-use borrow.Author.Tests.{eqb-true}
-use Rattle.table.proofs.laws.Lists.{both}
+use lib.ListN.{drop}
+use borrow.Author.Tests.{eqb-true, eq-eqb, not-true}
+use Rattle.table.proofs.laws.Lists.{both, never}
+use Rattle.table.specs.Lists.{every}
+use Rattle.grammar.specs.Reading.{reads}
 use Rattle.grammar.specs.Grammar.{Way, SyntaxField, Ty, stop, var, loop, choice, Br, last, also, bare, recs-guarded}
 use Rattle.grammar.proofs.laws.Questions.{recs-guarded-br}
-use Rattle.grammar.proofs.laws.Reads.{five-unguarded}
+use Rattle.grammar.proofs.laws.Reads.{not-long}
+use Rattle.spelling.specs.Refusals.{tests, FailsBy}
+use Rattle.spelling.proofs.claims.ReadOrRefused.{questions-mean}
 use Rattle.types.specs.Types.{substitute, substitute-br, unfolded, HasBranch, only, first, later, recs}
 use Rattle.types.specs.Contractive.{Unfolds, unfolds, Reaches, here, past-rec, past-message, Silent, Contractive, ContractiveExactly, ReadContractive, FiveSilent}
 use Rattle.types.proofs.laws.Close.{free-br, Closed, closed-also, closed-unfolded}
@@ -188,6 +194,12 @@ fault-reached (suc n) (in-branch h f) =
 unguarded-diverges : (t : Ty) → recs-guarded t ≡ false → Diverges t
 unguarded-diverges t e = let f = fault t e in fault-reached (f .0) (f .1)
 
+-- no test has the number
+other-number : (q : ℕ) (ts : List (ℕ × Bool)) → every (λ t. not (eqb q (t .0))) ts ≡ true → FailsBy q ts → ⊥
+unfolding every
+other-number q (t ∷ ts) e (inl x) = never (eq-eqb q (t .0) (x .0)) (not-true (eqb q (t .0)) (both (not (eqb q (t .0))) (every (λ t. not (eqb q (t .0))) ts) e .0))
+other-number q (t ∷ ts) e (inr f) = other-number q ts (both (not (eqb q (t .0))) (every (λ t. not (eqb q (t .0))) ts) e .1) f
+
 -- ---- the theorems
 
 pub contractive-exactly : ContractiveExactly
@@ -198,7 +210,14 @@ contractive-exactly t b = (λ g. guarded-contractive t (bound-closed t b, g), λ
     go false e c = let d = unguarded-diverges t e in absurd (c (d .0) (d .1) (d .2))
 
 pub read-contractive : ReadContractive
-read-contractive s h t w = let p = proper s h t w in guarded-contractive (t .type) (p .closed, p .guard)
+read-contractive s t x = let p = proper s t x in guarded-contractive (t .type) (p .closed, p .guard)
 
 pub five-silent : FiveSilent
-five-silent s h t w = unguarded-diverges (t .type) (five-unguarded s h t w)
+unfolding every
+five-silent s t sp h = unguarded-diverges (t .type) (five (questions-mean s t (not-long s (λ e. omega arith)) sp))
+  where
+    five : (reads s .question ≡ 0) ⊎ FailsBy (reads s .question) (tests t) → recs-guarded (t .type) ≡ false
+    five (inl z) = absurd (omega arith)
+    five (inr (inl x)) = absurd (omega (arith, x .0))
+    five (inr (inr (inl x))) = x .1
+    five (inr (inr (inr f))) = absurd (other-number (reads s .question) (drop 2 (tests t)) (rw h) f)

@@ -23,7 +23,7 @@ composite-runs (imon m r) = alone m (composite-runs r)
 
 -- so whatever the process, the composed system comes to a verdict only where the monitor of messages blames
 pub same-composed : SameComposed
-same-composed s h t w sent P Alone Says Takes x y side told i c = same-verdicts s h t w sent side told i .0 (composite-runs c)
+same-composed s t text sent P Alone Says Takes x y side told i c = same-verdicts s t text sent side told i .0 (composite-runs c)
 
 -- the process that says and takes anything
 abbrev Never : Unit {0} → Unit {0} → Type 0

@@ -9,10 +9,10 @@ use Prim.Native.Nat.{ℕ}
 use native.Mathlib.Omega.{arith}
 use Rattle.table.specs.Table.{is-choice}
 use Rattle.message.specs.Rules.{Said, and-then, is-some, next, leads, led, completed-list}
-use Rattle.grammar.specs.Grammar.{Ty, stop, var, loop, choice, Writes, Protocol}
-use Rattle.grammar.specs.Reading.{reads}
+use Rattle.grammar.specs.Grammar.{Ty, stop, var, loop, choice, Protocol}
 use Rattle.table.specs.declared.Party.{Party}
 use Rattle.conversation.proofs.laws.Conversation.{leads-more}
+use Rattle.spelling.specs.TextOf.{TextOf}
 use Rattle.types.specs.Types.{opened, sort-opened, protocol-rules, flip}
 use Rattle.types.specs.Monitor.{done, verdict, synth, Runs, rest}
 use Rattle.types.specs.Verdicts.{SameEnds}
@@ -29,7 +29,7 @@ at-stop (var x) e = absurd (false≢true e)
 at-stop (loop x t) e = absurd (false≢true e)
 at-stop (choice w bs) e = absurd (false≢true e)
 
-module _ (s : List ℕ) (h : reads s .question ≡ 0) (t : Protocol) (w : Writes s t) where
+module _ (s : List ℕ) (t : Protocol) (x : TextOf s t) where
   abbrev at-an-end : Ty → Option Ty
   at-an-end u = cond (is-choice (sort-opened (opened u))) none (some u)
 
@@ -42,7 +42,7 @@ module _ (s : List ℕ) (h : reads s .question ≡ 0) (t : Protocol) (w : Writes
   unfolding leads
   comes [] past u there told = (
     λ r.
-        let x = course u (proper-leads t (t .type) u past (proper s h t w) there) r in
+        let x = course u (proper-leads t (t .type) u past (proper s t x) there) r in
         (over .1 (x .1), x .0),
     λ x.
         subst (λ l. Runs (synth u) [] l done) (sym (x .1)) (runs-opened u [] [] done (at-stop (opened u) (over .0 (x .0)))),
@@ -55,11 +55,11 @@ module _ (s : List ℕ) (h : reads s .question ≡ 0) (t : Protocol) (w : Writes
       by false false e = absurd (false≢true e)
 
       over : (is-some (cond (is-choice (sort-opened (opened u))) none (some u)) ≡ true) ↔ (is-stop (opened u) ≡ true)
-      over = by (is-choice (sort-opened (opened u))) (is-stop (opened u)) (end-or-choice s h t w past u there)
+      over = by (is-choice (sort-opened (opened u))) (is-stop (opened u)) (end-or-choice s t x past u there)
   comes (v ∷ vs) past u there told = go (next (protocol-rules t) u v) refl (λ x there told. comes vs (past ++ (v ∷ [])) x there told)
     where
       p : Proper u
-      p = proper-leads t (t .type) u past (proper s h t w) there
+      p = proper-leads t (t .type) u past (proper s t x) there
 
       go : (o : Option Ty) → next (protocol-rules t) u v ≡ o
           → ((x : Ty) → led (protocol-rules t) (past ++ (v ∷ [])) ≡ some x → (told : List Said)
@@ -83,4 +83,4 @@ module _ (s : List ℕ) (h : reads s .question ≡ 0) (t : Protocol) (w : Writes
 
 pub same-ends : SameEnds
 unfolding completed-list leads
-same-ends s h t w vs told = comes s h t w vs [] (t .type) refl told
+same-ends s t x vs told = comes s t x vs [] (t .type) refl told

@@ -18,7 +18,7 @@ use Rattle.message.specs.Message.{well-formed}
 use Rattle.message.specs.Judge.{forbidden}
 use Rattle.message.specs.Rules.{Rules, Said, turn, next, leads, led, listens, judge-said}
 use Rattle.message.proofs.laws.Judge.{none-some}
-use Rattle.grammar.specs.Grammar.{Ty, Protocol, Writes, table-of}
+use Rattle.grammar.specs.Grammar.{Ty, Protocol, table-of}
 use Rattle.grammar.specs.Reading.{reads}
 use Rattle.grammar.proofs.laws.Reads.{read-sound}
 use Rattle.table.specs.declared.Party.{Party}
@@ -27,6 +27,8 @@ use Rattle.conversation.specs.Conversation.{Sent, Event, conversation, said-by,
 use Rattle.conversation.proofs.laws.Conversation.{blamed-for-good, forwarded-append, leads-more, its-turn, judgeable-none, nil-cons}
 use Rattle.conversation.proofs.laws.Step.{turn-its}
 use Rattle.conversation.proofs.claims.EarlyBlamed.{none-early}
+use Rattle.spelling.specs.TextOf.{TextOf}
+use Rattle.spelling.proofs.laws.TextOf.{is-read}
 use Rattle.types.specs.Types.{opened, protocol-rules, flip}
 use Rattle.types.specs.Monitor.{Mon, verdict, synth, Runs, rest as at-rest}
 use Rattle.types.specs.Verdicts.{heard-said, passed-on, for-early, in-turn, FirstInTurn, SameVerdicts, SameTold, blamed-by, ends-in-blame, proper-sent, SameBreaks}
@@ -351,41 +353,41 @@ module _ (t : Protocol) where
 -- under edition 1 nobody is blamed for coming out of turn
 pub first-in-turn : FirstInTurn
 unfolding in-turn every for-early view table-of
-first-in-turn s h p w one sent = go [] (conversation (reads s .table) sent) refl
+first-in-turn s p x one sent = go [] (conversation (reads s .table) sent) refl
   where
     first : edition-of (reads s .table) ≡ 1
-    first = sym (edition-is s h p w) ∙ one
+    first = sym (edition-is s p x) ∙ one
 
     not-four : (earlier : List Event) (e : Event) (later : List Event) → conversation (reads s .table) sent ≡ earlier ++ (e ∷ later)
         → (v : Told) → e .done .verdict ≡ v → not (for-early v) ≡ true
     not-four earlier e later f (refused q) g = refl
     not-four earlier e later f forwarded g = refl
     not-four earlier e later f (blamed side r k) g = ap not (refuted (eqb r 4) (λ z.
-        none-early (reads s .table) (read-sound s h) first sent earlier e later f side k (g ∙ ap (λ r. blamed side r k) (eqb-true r 4 z))))
+        none-early (reads s .table) (read-sound s (is-read s p x)) first sent earlier e later f side k (g ∙ ap (λ r. blamed side r k) (eqb-true r 4 z))))
 
     go : (past rest : List Event) → conversation (reads s .table) sent ≡ past ++ rest → in-turn rest ≡ true
     go past [] f = refl
     go past (e ∷ rest) f =
         join (not-four past e rest f (e .done .verdict) refl) (go (past ++ (e ∷ [])) rest (f ∙ sym (append-assoc past (e ∷ []) rest)))
 
-module _ (s : List ℕ) (h : reads s .question ≡ 0) (t : Protocol) (w : Writes s t) (sent : List Sent) (i : in-turn (conversation (reads s .table) sent) ≡ true) where
+module _ (s : List ℕ) (t : Protocol) (x : TextOf s t) (sent : List Sent) (i : in-turn (conversation (reads s .table) sent) ≡ true) where
   abbrev events : List Event
   events = conversation (reads s .table) sent
 
   followed : Follows t (t .type) events
   unfolding leads forwarded-ones blamed-first
-  followed = follows t [] events (t .type) refl refl (type-demand s h t w sent .each) i
+  followed = follows t [] events (t .type) refl refl (type-demand s t x sent .each) i
 
 pub same-verdicts : SameVerdicts
-same-verdicts s h t w sent side told i = verdicts t (followed s h t w sent i) (proper s h t w) side told
+same-verdicts s t x sent side told i = verdicts t (followed s t x sent i) (proper s t x) side told
 
 pub same-told : SameTold
-same-told s h t w sent i = (tells-all t (followed s h t w sent i), λ told K r. tells-only t (followed s h t w sent i) (proper s h t w) told K r)
+same-told s t x sent i = (tells-all t (followed s t x sent i), λ told K r. tells-only t (followed s t x sent i) (proper s t x) told K r)
 
 pub same-breaks : SameBreaks
-same-breaks s h t w sent k i side =
-    let d = type-demand s h t w sent .all-met in
-    let x = breaking t (followed s h t w sent i) (proper s h t w) (ap (every proper-sent) d ∙ k) side in (
-      λ y. x .0 (y .0, subst (λ l. Runs (synth (t .type)) (map said-by l) (y .0) (verdict side)) (sym d) (y .1)),
-      λ e. let y = x .1 e in (y .0, subst (λ l. Runs (synth (t .type)) (map said-by l) (y .0) (verdict side)) d (y .1)),
+same-breaks s t x sent k i side =
+    let d = type-demand s t x sent .all-met in
+    let b = breaking t (followed s t x sent i) (proper s t x) (ap (every proper-sent) d ∙ k) side in (
+      λ y. b .0 (y .0, subst (λ l. Runs (synth (t .type)) (map said-by l) (y .0) (verdict side)) (sym d) (y .1)),
+      λ e. let y = b .1 e in (y .0, subst (λ l. Runs (synth (t .type)) (map said-by l) (y .0) (verdict side)) d (y .1)),
     )

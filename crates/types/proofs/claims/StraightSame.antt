@@ -7,10 +7,9 @@ use lib.ListN.{length}
 use borrow.Author.Tests.{ne-eqb}
 use Rattle.grammar.specs.Grammar.{Ty, Br, way-sort, sorts, sorts-br, Scope, nothing-bound, bind, first-state, branch-for, branches, branches-br, share-of, shares, shares-br, table-of, Protocol, edition-named}
 use Rattle.grammar.specs.Filled.{filled}
+use Rattle.spelling.proofs.laws.TextOf.{read-into}
 use Rattle.grammar.specs.declared.Reading.{Reading}
-use Rattle.grammar.proofs.laws.Reads.{read-filled}
 use Rattle.types.specs.Straight.{Straight, at-end, at-name, before-name, in-rec, in-choice, StraightBr, in-last, in-also, StraightSame}
-use Rattle.types.proofs.laws.TextRules.{legal}
 
 mutual
   same-sorts : {t u : Ty} → Straight t u → sorts u ≡ sorts t
@@ -64,6 +63,6 @@ unfolding table-of
 same-table p q s e = rw (same-sorts s, same-branches s nothing-bound 0, same-shares s, e)
 
 pub straight-same : StraightSame
-straight-same s v h k p q w y d e =
-    ap (λ (r : Reading). r .table) (read-filled v q y (legal v k q y)) ∙ ap filled (same-table p q d e)
-    ∙ sym (ap (λ (r : Reading). r .table) (read-filled s p w (legal s h p w)))
+straight-same s v p q x y d e =
+    ap (λ (r : Reading). r .table) (read-into v q y) ∙ ap filled (same-table p q d e)
+    ∙ sym (ap (λ (r : Reading). r .table) (read-into s p x))

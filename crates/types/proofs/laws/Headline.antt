@@ -15,13 +15,15 @@ use Rattle.message.specs.Message.{read}
 use Rattle.message.specs.Judge.{Judgement, allowed, forbidden}
 use Rattle.message.specs.Rules.{Rules, table-rules, turn, next, led, listens, judge-said}
 use Rattle.message.proofs.laws.Judge.{none-some}
-use Rattle.grammar.specs.Grammar.{Ty, Protocol, Writes}
+use Rattle.grammar.specs.Grammar.{Ty, Protocol}
 use Rattle.grammar.specs.Reading.{reads}
 use Rattle.grammar.proofs.laws.Reads.{read-sound}
 use Rattle.conversation.specs.Step.{of-message, blamed}
 use Rattle.conversation.specs.Conversation.{Sent, Event, said-by, forwarded-ones, blamed-first, nobody, Judgeable, refusal-of, Handled, Met, Watched, Early, BlamedEarly}
 use Rattle.conversation.proofs.claims.DemandTwo.{demand-two}
 use Rattle.conversation.proofs.claims.EarlyBlamed.{early-blamed}
+use Rattle.spelling.specs.TextOf.{TextOf}
+use Rattle.spelling.proofs.laws.TextOf.{is-read}
 use Rattle.types.specs.Types.{protocol-rules}
 use Rattle.types.proofs.laws.StandsFor.{Alike, neither, each}
 use Rattle.types.proofs.laws.Agree.{why, Rules-alike, next-alike, Stands-for, led-alike}
@@ -134,15 +136,15 @@ module _ {A B : Type 0} (R : A → B → Type 0) (ra : Rules A) (rb : Rules B) (
             for-ever = d .for-ever;
           }
 
-pub type-demand : (s : List ℕ) → reads s .question ≡ 0 → (t : Protocol) → Writes s t → (sent : List Sent)
+pub type-demand : (s : List ℕ) (t : Protocol) → TextOf s t → (sent : List Sent)
     → Watched (protocol-rules t) (reads s .table) sent
-type-demand s h t w sent =
+type-demand s t x sent =
     let T = view (reads s .table) in
-    let d = demand-two (reads s .table) (read-sound s h) sent .demand in
+    let d = demand-two (reads s .table) (read-sound s (is-read s t x)) sent .demand in
     record {
       all-met = d .all-met;
       each = λ earlier e later f.
-          met-alike (Stands-for T) (protocol-rules t) (table-rules T) (text-rules s h t w) earlier e (d .each earlier e later f);
+          met-alike (Stands-for T) (protocol-rules t) (table-rules T) (text-rules s t x) earlier e (d .each earlier e later f);
     }
 
 -- ---- early messages
@@ -160,9 +162,9 @@ early-alike R ra rb g a b r earlier m x =
       room = x .room;
     }
 
-pub type-early : (s : List ℕ) → reads s .question ≡ 0 → (t : Protocol) → Writes s t → (sent : List Sent)
+pub type-early : (s : List ℕ) (t : Protocol) → TextOf s t → (sent : List Sent)
     → BlamedEarly (protocol-rules t) (reads s .table) sent
-type-early s h t w sent earlier e later f u there = go (led-alike R ra rb g (forwarded-ones earlier)) refl there
+type-early s t x sent earlier e later f u there = go (led-alike R ra rb g (forwarded-ones earlier)) refl there
   where
     R : Ty → ℕ → Type 0
     R = Stands-for (view (reads s .table))
@@ -174,13 +176,13 @@ type-early s h t w sent earlier e later f u there = go (led-alike R ra rb g (for
     rb = table-rules (view (reads s .table))
 
     g : Rules-alike R ra rb
-    g = text-rules s h t w
+    g = text-rules s t x
 
     go : {o : Option Ty} {p : Option ℕ} → Alike R o p → led rb (forwarded-ones earlier) ≡ p → o ≡ some u
         → (e .done .verdict ≡ blamed (e .sent .side) 4 none) ↔ Early ra earlier u (e .sent)
     go neither k i = none-some i
     go (each {a} {b} r) k i =
-        let x = early-blamed (reads s .table) (read-sound s h) sent earlier e later f b k in
+        let x = early-blamed (reads s .table) (read-sound s (is-read s t x)) sent earlier e later f b k in
         let q = subst (λ x. R x b) (Option·some-injective _ _ i) r in (
           λ z. early-alike R ra rb g u b q earlier (e .sent) (x .0 z),
           λ y. x .1 (early-alike (Turned R ra rb g) rb ra (turned R ra rb g) b u q earlier (e .sent) y),

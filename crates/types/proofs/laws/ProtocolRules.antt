@@ -8,7 +8,6 @@ use mathlib.Core.Option.{Option, none, some, Option·some-injective}
 use Prim.Native.Nat.{ℕ, zero, suc}
 use native.Mathlib.Omega.{arith}
 use lib.Dec.{leb, eqb}
-use lib.ListN.{length}
 use borrow.Author.Tests.{not-true, eq-eqb, le-leb}
 use Rattle.table.specs.Lists.{every, matched, same}
 use Rattle.table.specs.View.{label-of}
@@ -18,51 +17,51 @@ use Rattle.message.specs.Message.{Value, Message}
 use Rattle.message.specs.Judge.{same-kind, in-range, holds}
 use Rattle.grammar.specs.Token.{word-of}
 use Rattle.grammar.specs.Number.{offset, in-kind}
-use Rattle.grammar.proofs.laws.Questions.{recs-guarded-br, labels-new-br, branches-legal-br}
-use Rattle.grammar.specs.Grammar.{SyntaxField, Ty, stop, var, loop, choice, Br, last, also, recs-guarded, label-among, Protocol, labels-new, fields-legal, branches-legal, way-sort, sending, receiving, Way, range-legal, kind-code}
+use Rattle.grammar.proofs.laws.Questions.{recs-guarded-br, labels-new-br, ranges-legal-br}
+use Rattle.grammar.specs.Grammar.{SyntaxField, Ty, stop, var, loop, choice, Br, last, also, recs-guarded, label-among, Protocol, labels-new, ranges-legal, way-sort, sending, receiving, Way, range-legal, kind-code}
 use Rattle.message.proofs.laws.Judge.{none-some}
 use Rattle.conversation.proofs.laws.Step.{turn-its}
 use Rattle.conversation.proofs.laws.Conversation.{its-turn}
 use Rattle.grammar.proofs.laws.Packed.{Label}
 use Rattle.grammar.proofs.laws.NameToken.{Labelled, LabelledBr}
 use Rattle.table.specs.declared.Party.{Party}
-use Rattle.table.specs.Table.{fields-most, speaker, is-party}
+use Rattle.table.specs.Table.{speaker, is-party}
 use Rattle.message.specs.Rules.{Said, and-then, turn, next, leads}
 use Rattle.types.specs.Types.{side-of, substitute, substitute-br, unfolded, hold, HasBranch, only, first, later, Step, by-branch, by-rec, Steps, no-step, a-step, Ends, at-stop, past-rec, recs, unroll, opened, matches, takes, sort-opened, allows-opened, protocol-rules}
 use Rattle.types.proofs.laws.Close.{Closed, closed-also, closed-unfolded}
 use Rattle.types.proofs.laws.Front.{named, closed-no-name, recs-unfolded, opened-rec, guarded-unfolded}
 
--- every name is bound, a choice stands between it and its binder, the fields are legal, the labels of a choice differ, and each is a word
+-- every name is bound, a choice stands between it and its binder, the ranges are legal, the labels of a choice differ, and each is a word
 pub record Proper (t : Ty) : Type 0 where
   pub closed : Closed t
   pub guard : recs-guarded t ≡ true
-  pub ranges : branches-legal t ≡ true
+  pub ranges : ranges-legal t ≡ true
   pub labels : labels-new t ≡ true
   pub words : Labelled t
 
 -- ---- substitution keeps a type proper
 
 mutual
-  ranges-put : (t : Ty) (x : ℕ) (u : Ty) → branches-legal u ≡ true → branches-legal t ≡ true → branches-legal (substitute t x u) ≡ true
+  ranges-put : (t : Ty) (x : ℕ) (u : Ty) → ranges-legal u ≡ true → ranges-legal t ≡ true → ranges-legal (substitute t x u) ≡ true
   ranges-put stop x u h g = refl
   ranges-put (var y) x u h g = go (eqb y x)
     where
-      go : (b : Bool) → branches-legal (cond b u (var y)) ≡ true
+      go : (b : Bool) → ranges-legal (cond b u (var y)) ≡ true
       go true = h
       go false = refl
   ranges-put (loop y t) x u h g = go (eqb y x) (ranges-put t x u h g)
     where
-      go : (b : Bool) → branches-legal (substitute t x u) ≡ true → branches-legal (cond b t (substitute t x u)) ≡ true
+      go : (b : Bool) → ranges-legal (substitute t x u) ≡ true → ranges-legal (cond b t (substitute t x u)) ≡ true
       go true i = g
       go false i = i
   ranges-put (choice w bs) x u h g = ranges-put-br bs x u h g
 
-  ranges-put-br : (bs : Br) (x : ℕ) (u : Ty) → branches-legal u ≡ true → branches-legal-br bs ≡ true → branches-legal-br (substitute-br bs x u) ≡ true
+  ranges-put-br : (bs : Br) (x : ℕ) (u : Ty) → ranges-legal u ≡ true → ranges-legal-br bs ≡ true → ranges-legal-br (substitute-br bs x u) ≡ true
   ranges-put-br (last l fs sh t) x u h g =
-      let w = both (fields-legal fs) (branches-legal t) g in
+      let w = both (every range-legal fs) (ranges-legal t) g in
       join (w .0) (ranges-put t x u h (w .1))
   ranges-put-br (also l fs sh t bs) x u h g =
-      let w = all-three (fields-legal fs) (branches-legal t) (branches-legal-br bs) g in
+      let w = all-three (every range-legal fs) (ranges-legal t) (ranges-legal-br bs) g in
       join (join (w .0) (ranges-put t x u h (w .1))) (ranges-put-br bs x u h (w .2))
 
 label-put : (bs : Br) (x : ℕ) (u : Ty) (l : ℕ) → label-among (substitute-br bs x u) l ≡ label-among bs l
@@ -137,13 +136,13 @@ proper-taken z (last l fs sh t) m u p e = go (matches l fs m) e
   where
     go : (b : Bool) → cond b (some t) none ≡ some u → Proper u
     go true e =
-        let f = both (fields-legal fs) (branches-legal t) (p .ranges) in
+        let f = both (every range-legal fs) (ranges-legal t) (p .ranges) in
         subst Proper (Option·some-injective _ _ e)
         (record { closed = p .closed; guard = p .guard; ranges = f .1; labels = p .labels; words = p .words .1 })
     go false e = none-some e
 proper-taken z (also l fs sh t bs) m u p e =
     let w = both (recs-guarded t) (recs-guarded-br bs) (p .guard) in
-    let f = all-three (fields-legal fs) (branches-legal t) (branches-legal-br bs) (p .ranges) in
+    let f = all-three (every range-legal fs) (ranges-legal t) (ranges-legal-br bs) (p .ranges) in
     let x = all-three (not (label-among bs l)) (labels-new t) (labels-new-br bs) (p .labels) in
     let k = p .words .1 in
     let c = closed-also t bs (p .closed) in
@@ -397,16 +396,13 @@ holds-lows (f ∷ fs) e =
     join (join (eq-eqb κ κ refl) (join (le-leb low low (omega arith)) (y .2))) (holds-lows fs (x .1))
 
 -- the first branch of a choice takes its label with every number low
-branch-taken : (w : Way) (bs : Br) → branches-legal-br bs ≡ true → (m : Message) × (u : Ty) × Step (choice w bs) (side-of w) m u
-unfolding fields-legal
+branch-taken : (w : Way) (bs : Br) → ranges-legal-br bs ≡ true → (m : Message) × (u : Ty) × Step (choice w bs) (side-of w) m u
 branch-taken w (last l fs sh t) g =
-    let x = both (fields-legal fs) (branches-legal t) g in
-    let y = both (every range-legal fs) (leb (length fs) fields-most) (x .0) in
-    (record { label = label-of l; values = lows fs }, t, by-branch only refl (holds-lows fs (y .0)))
+    let x = both (every range-legal fs) (ranges-legal t) g in
+    (record { label = label-of l; values = lows fs }, t, by-branch only refl (holds-lows fs (x .0)))
 branch-taken w (also l fs sh t bs) g =
-    let x = all-three (fields-legal fs) (branches-legal t) (branches-legal-br bs) g in
-    let y = both (every range-legal fs) (leb (length fs) fields-most) (x .0) in
-    (record { label = label-of l; values = lows fs }, t, by-branch first refl (holds-lows fs (y .0)))
+    let x = all-three (every range-legal fs) (ranges-legal t) (ranges-legal-br bs) g in
+    (record { label = label-of l; values = lows fs }, t, by-branch first refl (holds-lows fs (x .0)))
 
 recs-stepped : (n : ℕ) (t : Ty) (side : Party) (m : Message) (u : Ty) → Step (unroll n t) side m u → Step t side m u
 recs-stepped zero t side m u h = h

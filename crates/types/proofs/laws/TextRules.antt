@@ -10,12 +10,13 @@ use Rattle.table.specs.Table as Tables
 use Rattle.table.specs.View.{view}
 use Rattle.message.specs.Rules.{table-rules, Said, led}
 use Rattle.message.proofs.laws.Judge.{none-some}
-use Rattle.grammar.specs.Grammar.{Ty, Writes, Legal, table-of, Protocol, edition-named}
+use Rattle.grammar.specs.Grammar.{Ty, table-of, Protocol, edition-named}
 use Rattle.grammar.specs.Reading.{reads}
-use Rattle.grammar.proofs.laws.Reads.{read-only, read-seen}
-use Rattle.grammar.proofs.laws.Unique.{syntax-unique}
+use Rattle.grammar.proofs.laws.Reads.{read-seen}
 use Rattle.grammar.proofs.laws.NameToken.{labels-legal}
 use Rattle.grammar.proofs.laws.TableOf.{choice-is}
+use Rattle.spelling.specs.TextOf.{TextOf}
+use Rattle.spelling.proofs.laws.TextOf.{writes}
 use Rattle.types.specs.Types.{opened, sort-opened, protocol-rules}
 use Rattle.types.proofs.laws.Close.{Closed}
 use Rattle.types.proofs.laws.Closed.{bound-closed}
@@ -24,26 +25,23 @@ use Rattle.types.proofs.laws.StandsFor.{Alike, neither, each, Head, an-
 use Rattle.types.proofs.laws.Numbering.{at}
 use Rattle.types.proofs.laws.Agree.{Stands-for, Rules-alike, rules-alike, led-alike, starts}
 
-module _ (s : List ℕ) (h : reads s .question ≡ 0) (t : Protocol) (w : Writes s t) where
-  pub legal : Legal t
-  legal = let r = read-only s h in subst Legal (syntax-unique s (r .0) t (r .1) w) (r .2)
-
+module _ (s : List ℕ) (t : Protocol) (x : TextOf s t) where
   pub closed : Closed (t .type)
-  closed = bound-closed (t .type) (legal .bound)
+  closed = bound-closed (t .type) (x .legal .bound)
 
   pub proper : Proper (t .type)
   proper =
-      record { closed = closed; guard = legal .guarded; ranges = legal .fields; labels = legal .labels; words = labels-legal s t w }
+      record { closed = closed; guard = x .legal .guarded; ranges = x .legal .ranges; labels = x .legal .labels; words = labels-legal s t (writes s t x) }
 
   pub table : view (reads s .table) ≡ table-of t
-  table = read-seen s (table-of t) .1 (t, w, legal, refl) .1
+  table = read-seen s (table-of t) .1 (t, writes s t x, x .legal, refl) .1
 
   abbrev pub T : Table
   T = view (reads s .table)
 
   -- a state stands for each type that the text's type leads to: state 0 for the type itself, and related ones go on together
   pub begins : Stands-for T (t .type) 0
-  begins = subst (λ T. Stands-for T (t .type) 0) (sym table) (starts t closed (legal .guarded))
+  begins = subst (λ T. Stands-for T (t .type) 0) (sym table) (starts t closed (x .legal .guarded))
 
   pub edition-is : edition-named (t .opening) ≡ T .edition
   unfolding table-of

@@ -8,7 +8,7 @@ use native.Mathlib.Omega.{arith}
 use borrow.Author.Count.{below-more}
 use borrow.Author.Needs.{needs}
 use Rattle.table.specs.View.{branches-of, owner-at, sound-of}
-use Rattle.table.specs.inner.Scans.{added}
+use Rattle.table.specs.Sound.{added}
 use Rattle.table.proofs.laws.View.{sound-facts}
 use Rattle.table.proofs.laws.SharesRight.{added-most, Adds, adds-none, adds-more}
 use Rattle.conversation.specs.Counts.{k-at}
