@@ -41,6 +41,26 @@ pub data Item : Type 0 where
   dot : Item
   share : Item
 
+-- which of these it is
+abbrev pub tag : Item → ℕ
+tag outset = 0
+tag edition = 1
+tag (just n) = 2
+tag name = 3
+tag label = 4
+tag type = 5
+tag (more σ) = 6
+tag fields = 7
+tag field = 8
+tag (low κ) = 9
+tag (high κ l) = 10
+tag more-fields = 11
+tag dot = 12
+tag share = 13
+
+abbrev pub is-a : Item → Item → Bool
+is-a i j = eqb (tag i) (tag j)
+
 -- What is open: a `rec` with its name and the first state of its body, a choice with its state.
 pub data Open : Type 0 where
   a-rec : ℕ → ℕ → Open
@@ -128,41 +148,12 @@ unfoldable pub grammar-allows : Question
 grammar-allows s st k = admits (next-item st) (k .kind)
 
 -- 23. Is an edition 1 or 2?
-abbrev pub as-edition : Item → Bool
-as-edition outset = false
-as-edition edition = true
-as-edition (just n) = false
-as-edition name = false
-as-edition label = false
-as-edition type = false
-as-edition (more σ) = false
-as-edition fields = false
-as-edition field = false
-as-edition (low κ) = false
-as-edition (high κ l) = false
-as-edition more-fields = false
-as-edition dot = false
-as-edition share = false
-
 unfoldable pub edition-known : Question
-edition-known s st k = cond (as-edition (next-item st)) (in-edition (signed-in s k)) true
+edition-known s st k = cond (is-a (next-item st) edition) (in-edition (signed-in s k)) true
 
--- the token is a name used as a type
+-- a name is used as a type
 abbrev pub as-type : Item → ℕ → Bool
-as-type outset kind = eqb kind K.name
-as-type edition kind = false
-as-type (just n) kind = false
-as-type name kind = false
-as-type label kind = false
-as-type type kind = eqb kind K.name
-as-type (more σ) kind = false
-as-type fields kind = false
-as-type field kind = false
-as-type (low κ) kind = false
-as-type (high κ l) kind = false
-as-type more-fields kind = false
-as-type dot kind = false
-as-type share kind = false
+as-type i kind = (is-a i outset || is-a i type) && eqb kind K.name
 
 -- 4. Is a name used as a type bound by a `rec` around it?
 abbrev pub is-found : Option ℕ → Bool
@@ -198,44 +189,12 @@ unfoldable pub ranged : Question
 ranged s st k = number-in-range s k (next-item st)
 
 -- 19. Is a share 1 to 1000?
-abbrev pub as-share : Item → Bool
-as-share outset = false
-as-share edition = false
-as-share (just n) = false
-as-share name = false
-as-share label = false
-as-share type = false
-as-share (more σ) = false
-as-share fields = false
-as-share field = false
-as-share (low κ) = false
-as-share (high κ l) = false
-as-share more-fields = false
-as-share dot = false
-as-share share = true
-
 unfoldable pub share-ranged : Question
-share-ranged s st k = cond (as-share (next-item st)) (in-share (signed-in s k)) true
+share-ranged s st k = cond (is-a (next-item st) share) (in-share (signed-in s k)) true
 
 -- 7. Is the label new in its choice?
-abbrev pub as-label : Item → Bool
-as-label outset = false
-as-label edition = false
-as-label (just n) = false
-as-label name = false
-as-label label = true
-as-label type = false
-as-label (more σ) = false
-as-label fields = false
-as-label field = false
-as-label (low κ) = false
-as-label (high κ l) = false
-as-label more-fields = false
-as-label dot = false
-as-label share = false
-
 unfoldable pub new-label : Question
-new-label s st k = cond (as-label (next-item st)) (not (label-used (table-in st) (owner-in (open-in st)) (word-in s k))) true
+new-label s st k = cond (is-a (next-item st) label) (not (label-used (table-in st) (owner-in (open-in st)) (word-in s k))) true
 
 -- 8. Is the token within 32 states, 128 branches, 4 fields in a branch, and 16 choices and `rec`s open around one another?
 -- States are counted at `+`, `&` or `end`, branches at `!` or `?`, fields at the kind's word, what is open at `+`, `&` or `rec`.
@@ -251,20 +210,7 @@ within s st k =
 
 -- 20. Have the branches of a choice that closes no share, or each one, and do they add to 1000?
 abbrev pub closes : Item → ℕ → Bool
-closes outset kind = false
-closes edition kind = false
-closes (just n) kind = false
-closes name kind = false
-closes label kind = false
-closes type kind = false
-closes (more σ) kind = eqb kind (K.of "}")
-closes fields kind = false
-closes field kind = false
-closes (low κ) kind = false
-closes (high κ l) kind = false
-closes more-fields kind = false
-closes dot kind = false
-closes share kind = false
+closes i kind = is-a i (more 0) && eqb kind (K.of "}")
 
 unfoldable pub shares-add : Question
 shares-add s st k = cond (closes (next-item st) (k .kind)) (choice-right (table-in st) (owner-in (open-in st))) true

@@ -15,7 +15,7 @@ use Rattle.grammar.specs.Number.{Signed, signed-in, offset, in-kind, in-share, 
 use Rattle.grammar.specs.Grammar.{Tok, word, number, sign, or-else}
 use Rattle.grammar.specs.TokOf.{tok-of}
 use Rattle.grammar.specs.Building.{label-used, denied}
-use Rattle.grammar.specs.Reading.{Item, outset, edition, just, name, label, type, more, fields, field, low, high, more-fields, dot, share, Open, State, state, open-in, table-in, next-item, meaning, unguarded, owner-in, admits, as-type, is-found, number-in-range, as-share, as-label, token-formed, grammar-allows, as-edition, edition-known, name-bound, guarded, ranged, share-ranged, new-label, within, shares-add, target, began, taken, run-tokens, questions}
+use Rattle.grammar.specs.Reading.{Item, outset, edition, just, name, label, type, more, fields, field, low, high, more-fields, dot, share, Open, State, state, open-in, table-in, is-a, next-item, meaning, unguarded, owner-in, admits, as-type, is-found, number-in-range, token-formed, grammar-allows, edition-known, name-bound, guarded, ranged, share-ranged, new-label, within, shares-add, target, began, taken, run-tokens, questions}
 use Rattle.grammar.specs.declared.token.Token.{Token}
 use Rattle.grammar.proofs.laws.TokOf.{word-kind, number-kind, kind-word, kind-number}
 use Rattle.grammar.proofs.laws.RunTokens.{first-is, rest-is, never-empty, passed}
@@ -86,7 +86,7 @@ module _ (s u : List ℕ) (k j : Token) (same : tok-of s k ≡ tok-of u j) where
   range-same dot a = refl
   range-same share a = refl
 
-  edition-same : (i : Item) → admits i (k .kind) ≡ true → cond (as-edition i) (in-edition (signed-in s k)) true ≡ cond (as-edition i) (in-edition (signed-in u j)) true
+  edition-same : (i : Item) → admits i (k .kind) ≡ true → cond (is-a i edition) (in-edition (signed-in s k)) true ≡ cond (is-a i edition) (in-edition (signed-in u j)) true
   edition-same outset a = refl
   edition-same edition a = ap in-edition (number-same a)
   edition-same (just n) a = refl
@@ -102,7 +102,7 @@ module _ (s u : List ℕ) (k j : Token) (same : tok-of s k ≡ tok-of u j) where
   edition-same dot a = refl
   edition-same share a = refl
 
-  share-same : (i : Item) → admits i (k .kind) ≡ true → cond (as-share i) (in-share (signed-in s k)) true ≡ cond (as-share i) (in-share (signed-in u j)) true
+  share-same : (i : Item) → admits i (k .kind) ≡ true → cond (is-a i share) (in-share (signed-in s k)) true ≡ cond (is-a i share) (in-share (signed-in u j)) true
   share-same outset a = refl
   share-same edition a = refl
   share-same (just n) a = refl
@@ -119,7 +119,7 @@ module _ (s u : List ℕ) (k j : Token) (same : tok-of s k ≡ tok-of u j) where
   share-same share a = ap in-share (number-same a)
 
   label-same : (i : Item) (T : Table) (o : ℕ) → admits i (k .kind) ≡ true
-      → cond (as-label i) (not (label-used T o (word-in s k))) true ≡ cond (as-label i) (not (label-used T o (word-in u j))) true
+      → cond (is-a i label) (not (label-used T o (word-in s k))) true ≡ cond (is-a i label) (not (label-used T o (word-in u j))) true
   label-same outset T o a = refl
   label-same edition T o a = refl
   label-same (just n) T o a = refl
