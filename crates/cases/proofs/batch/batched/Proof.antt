@@ -10,8 +10,7 @@ use Prim.Native.Nat.{ℕ}
 use lib.ListN.{length}
 use mir.Syntax.{named}
 use mir.Val.{Val, vptr}
-use Rattle.conversation.specs.Batch.{batched}
-use Rattle.conversation.specs.Counts.{counted-batch}
+use Rattle.conversation.specs.Batch.{lent, batching, batched}
 use Rattle.conversation.specs.declared.State.{State}
 use Rattle.conversation.specs.declared.batch.Passed.{Passed}
 use Rattle.conversation.specs.declared.batch.Batched.{Batched}
@@ -114,7 +113,7 @@ module _ {M : Type 1} (𝓤 : URA M) (H : Heap 𝓤) (A : Atoms 𝓤) (W : Given
 
   -- what `advance` ensures of its answer, the last state, the last counts and the last lists of the outputs
   abbrev Does : Batched → List ℕ → List ℕ → List ℕ → Type 0
-  Does r cs ys zs = (batched r ys zs, cs) ≡ counted-batch (t .now) h (c .now) (x .now) (w .now) (y .now) (z .now)
+  Does r cs ys zs = batched r cs ys zs ≡ batching (t .now) h (c .now) (lent (x .now) (w .now) (y .now) (z .now))
 
   -- what is had at exit
   abbrev Had : List ℕ → List ℕ → List ℕ → List (Item 𝓤)
