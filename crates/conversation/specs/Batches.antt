@@ -1,62 +1,48 @@
--- What is proved of batches (document 02, request 2): they are single calls, they may be cut in two, no byte is lost, and demand 2 holds
--- of the messages that they take, none of which is early.
+-- What is proved of batches (document 02, request 2): they are single calls, they may be cut in two, no byte is lost, and none of the
+-- messages that they take is early. That demand 2 holds of them: Programs.antt.
 -- Assumes nothing.
 use mathlib.Core.Path.{_≡_}
 use mathlib.Core.Bool.{true, not, _&&_, cond}
-use mathlib.Core.List.{List, [], _∷_, _++_, map, flatten}
+use mathlib.Core.List.{List, [], _∷_, _++_, flatten}
 use mathlib.Core.Option.{Option, none, some}
 use Prim.Native.Nat.{ℕ, _+_, _≤_}
 use lib.ListN.{length, take, drop}
 use Rattle.table.specs.Lists.{first-no, every}
 use Rattle.table.specs.Table.{is-party}
-use Rattle.table.specs.View.{Words, view, sound-of}
+use Rattle.table.specs.View.{Words}
 use Rattle.table.specs.declared.Party.{Party}
-use Rattle.table.specs.declared.Party.the-variants.{Device, Host}
 use Rattle.message.specs.Message.{refusal, well-formed}
-use Rattle.message.specs.Rules.{Rules, table-rules}
 use Rattle.conversation.specs.declared.State.{State}
-use Rattle.conversation.specs.Step.{fresh, is-running, Told, refused, blamed, forwarded}
+use Rattle.conversation.specs.Step.{is-running, Told, refused, blamed, forwarded}
 use Rattle.conversation.specs.Due.{of-side, awaited, due}
-use Rattle.conversation.specs.Conversation.{Event, event, conversation, is-refused, is-forwarded, Watched}
-use Rattle.conversation.specs.Batch.{Lane, Batch, latest, batch-questions, begun, batching}
+use Rattle.conversation.specs.Conversation.{Event, event, is-refused, is-forwarded}
+use Rattle.conversation.specs.Counts.{Counts, counted, counted-turn}
+use Rattle.conversation.specs.Batch.{Both, at-side, set-side, each-side, Left, Lane, Batch, latest, batch-questions, begun, batching}
 use denote.Ref.{RefT, now}
 
 -- ---- single calls
 
--- what waits on either side, and what is left of either output
-pub record Left : Type 0 where
-  pub device : List ℕ
-  pub host : List ℕ
-  pub to-device : List ℕ
-  pub to-host : List ℕ
-
--- a side's messages go to the other side's output
-unfoldable pub output-for : Party → Left → List ℕ
-output-for Device l = l .to-host
-output-for Host l = l .to-device
-
--- once a message of n bytes is forwarded
-unfoldable pub left-after : Party → ℕ → Left → Left
-left-after Device n l = record { device = drop n (l .device); host = l .host; to-device = l .to-device; to-host = drop n (l .to-host) }
-left-after Host n l = record { device = l .device; host = drop n (l .host); to-device = drop n (l .to-device); to-host = l .to-host }
+-- what is left once a message of n bytes is forwarded
+unfoldable pub left-after : Party → ℕ → Both Left → Both Left
+left-after side n l = set-side side (record { bytes = drop n (at-side side l .bytes); output = drop n (at-side side l .output) }) l
 
 -- `due` hands out this message, wherever in memory the bytes stand
-abbrev pub HandsOut : Words → State → Left → List ℕ → Type 0
-HandsOut t s l message = (device host : RefT (List ℕ)) → now device ≡ l .device → now host ≡ l .host → due t s device host .1 ≡ message
+abbrev pub HandsOut : Words → State → Both Left → List ℕ → Type 0
+HandsOut t s l message = (device host : RefT (List ℕ)) → now device ≡ l .device .bytes → now host ≡ l .host .bytes → due t s device host .1 ≡ message
 
 -- a step with the due message, sent by the side whose turn it is, and given what is left of the output
-pub record Single (t : Words) (s : State) (l : Left) (e : Event) : Type 0 where
+pub record Single (t : Words) (s : State) (l : Both Left) (e : Event) : Type 0 where
   pub turn : awaited t s ≡ of-side (e .sent .side)
   pub due : HandsOut t s l (e .sent .bytes)
   pub some-due : e .sent .bytes ≡ [] → ⊥
-  pub given : e .sent .buffer ≡ output-for (e .sent .side) l
+  pub given : e .sent .buffer ≡ at-side (e .sent .side) l .output
   pub stepped : e ≡ event t s (e .sent)
 
 -- such steps, one after another, until none is due, a step refuses or a blame falls
-pub data Singly (t : Words) : State → Left → List Event → Type 0 where
-  none-due : {s : State} {l : Left} → HandsOut t s l [] → Singly t s l []
-  stops : {s : State} {l : Left} {e : Event} → Single t s l e → (e .done .verdict ≡ forwarded → ⊥) → Singly t s l (e ∷ [])
-  goes-on : {s : State} {l : Left} {e : Event} {r : List Event} → Single t s l e → e .done .verdict ≡ forwarded
+pub data Singly (t : Words) : State → Both Left → List Event → Type 0 where
+  none-due : {s : State} {l : Both Left} → HandsOut t s l [] → Singly t s l []
+  stops : {s : State} {l : Both Left} {e : Event} → Single t s l e → (e .done .verdict ≡ forwarded → ⊥) → Singly t s l (e ∷ [])
+  goes-on : {s : State} {l : Both Left} {e : Event} {r : List Event} → Single t s l e → e .done .verdict ≡ forwarded
       → Singly t (e .done .state) (left-after (e .sent .side) (length (e .sent .bytes)) l) r → Singly t s l (e ∷ r)
 
 -- ---- what they come to
@@ -83,33 +69,35 @@ unfoldable pub state-after : State → List Event → State
 state-after s [] = s
 state-after s (e ∷ r) = state-after (e .done .state) r
 
+-- the counts after events, one after another
+unfoldable pub counts-after : Words → Counts → List Event → Counts
+counts-after t c [] = c
+counts-after t c (e ∷ r) = counts-after t (counted t (e .met) (e .sent .bytes) (e .done .verdict) c) r
+
 -- that of the last step, if one was tried
 unfoldable pub last-answer : List Event → Option Told
 last-answer [] = none
 last-answer (e ∷ []) = some (e .done .verdict)
 last-answer (e ∷ f ∷ r) = last-answer (f ∷ r)
 
-unfoldable pub summed : State → Left → List Event → Batch
-summed s l events =
+unfoldable pub summed : Words → State → Counts → Both Left → List Event → Batch
+summed t s c l events =
     record {
       state = state-after s events;
-      device = lane-after Device events (l .to-host);
-      host = lane-after Host events (l .to-device);
+      counts = counts-after t c events;
+      lanes = each-side (λ side. lane-after side events (at-side side l .output));
       last = last-answer events;
     }
-
-abbrev pub batch-of : Words → State → Left → Batch
-batch-of t s l = batching t s (l .device) (l .host) (l .to-device) (l .to-host)
 
 -- single calls come to an end; and whatever single calls there are, the batch does what they do
 abbrev pub BatchSingly : Type 0
 BatchSingly =
-    (t : Words) (s : State) (l : Left) → first-no (batch-questions t s) ≡ 0
-    → ((events : List Event) × Singly t s l events) × ((events : List Event) → Singly t s l events → batch-of t s l ≡ summed s l events)
+    (t : Words) (s : State) (c : Counts) (l : Both Left) → first-no (batch-questions t s c) ≡ 0
+    → ((events : List Event) × Singly t s l events) × ((events : List Event) → Singly t s l events → batching t s c l ≡ summed t s c l events)
 
 -- ---- a batch cut in two
 
--- a batch, and another on what it left, as one: counts are added, outputs joined, and the last answer is the later one
+-- a batch, and another on what it left, as one: numbers are added, outputs joined, and the last answer is the later one
 unfoldable pub onto-lane : Lane → Lane → Lane
 onto-lane a b = record { used = a .used + b .used; written = a .written + b .written; output = take (a .written) (a .output) ++ b .output }
 
@@ -117,30 +105,28 @@ unfoldable pub onto : Batch → Batch → Batch
 onto a b =
     record {
       state = b .state;
-      device = onto-lane (a .device) (b .device);
-      host = onto-lane (a .host) (b .host);
+      counts = b .counts;
+      lanes = each-side (λ side. onto-lane (at-side side (a .lanes)) (at-side side (b .lanes)));
       last = latest (b .last) (a .last);
     }
 
 -- what a batch leaves of what it was given, and of what has come since
-unfoldable pub left-by : Batch → Left → Left
+unfoldable pub left-by : Batch → Both Left → Both Left
 left-by b l =
-    record {
-      device = drop (b .device .used) (l .device);
-      host = drop (b .host .used) (l .host);
-      to-device = drop (b .host .written) (b .host .output);
-      to-host = drop (b .device .written) (b .device .output);
-    }
+    each-side (λ side. let a = at-side side (b .lanes) in
+    record { bytes = drop (a .used) (at-side side l .bytes); output = drop (a .written) (a .output) })
 
--- bytes that come later: x behind the device's, y behind the host's
-unfoldable pub arrived : Left → List ℕ → List ℕ → Left
-arrived l x y = record { device = l .device ++ x; host = l .host ++ y; to-device = l .to-device; to-host = l .to-host }
+-- bytes that come later, behind those that wait
+unfoldable pub joined-by : Both Left → Both (List ℕ) → Both Left
+joined-by l x = each-side (λ side. record { bytes = at-side side l .bytes ++ at-side side x; output = at-side side l .output })
 
--- wherever the bytes are cut: unless the first batch was refused or somebody is blamed in it, the second goes on as one batch would
+-- wherever the bytes are cut: unless the first batch was refused or somebody is blamed in it, the second goes on as one batch would. The
+-- counts are as many as the program has: question 9 does not ask that
 abbrev pub BatchInTwo : Type 0
 BatchInTwo =
-    (t : Words) (s : State) (l : Left) (x y : List ℕ) → first-no (batch-questions t s) ≡ 0 → is-running (batch-of t s l .state .standing) ≡ true
-    → batch-of t s (arrived l x y) ≡ onto (batch-of t s l) (batch-of t (batch-of t s l .state) (left-by (batch-of t s l) (arrived l x y)))
+    (t : Words) (s : State) (c : Counts) (l : Both Left) (x : Both (List ℕ)) → length c ≡ 161 → first-no (batch-questions t s c) ≡ 0
+    → let a = batching t s c l in is-running (a .state .standing) ≡ true
+    → batching t s c (joined-by l x) ≡ onto a (batching t (a .state) (a .counts) (left-by a (joined-by l x)))
 
 -- ---- no byte is lost
 
@@ -150,62 +136,29 @@ Messages bytes n = (row : List (List ℕ)) × (every well-formed row ≡ true) �
 
 -- of a side's waiting bytes and the other side's output: what is used are whole messages, of which the first are forwarded, unchanged and
 -- in their order; the other bytes wait still, and the rest of the output is unchanged
-pub record Accounted (bytes before : List ℕ) (l : Lane) : Type 0 where
-  pub used : l .used ≤ length bytes
-  pub messages : Messages bytes (l .used)
-  pub passed : Messages bytes (l .written)
-  pub written : l .written ≤ l .used
-  pub forwards : l .output ≡ take (l .written) bytes ++ drop (l .written) before
+pub record Accounted (l : Left) (a : Lane) : Type 0 where
+  pub used : a .used ≤ length (l .bytes)
+  pub messages : Messages (l .bytes) (a .used)
+  pub passed : Messages (l .bytes) (a .written)
+  pub written : a .written ≤ a .used
+  pub forwards : a .output ≡ take (a .written) (l .bytes) ++ drop (a .written) (l .output)
 
-pub record NothingLostOf (l : Left) (b : Batch) : Type 0 where
-  pub from-device : Accounted (l .device) (l .to-host) (b .device)
-  pub from-host : Accounted (l .host) (l .to-device) (b .host)
-  -- all of them, but for a message that was blamed
-  pub unblamed : is-running (b .state .standing) ≡ true → (b .device .used ≡ b .device .written) × (b .host .used ≡ b .host .written)
+-- of either side; and all that is used is forwarded, but for a message that was blamed
+pub record NothingLostOf (l : Both Left) (b : Batch) : Type 0 where
+  pub accounted : (side : Party) → Accounted (at-side side l) (at-side side (b .lanes))
+  pub unblamed : is-running (b .state .standing) ≡ true → (side : Party) → at-side side (b .lanes) .used ≡ at-side side (b .lanes) .written
 
 abbrev pub NothingLost : Type 0
-NothingLost = (t : Words) (s : State) (l : Left) → NothingLostOf l (batch-of t s l)
+NothingLost = (t : Words) (s : State) (c : Counts) (l : Both Left) → NothingLostOf l (batching t s c l)
 
 -- ---- a text that is no UTF-8
-
--- what waits on a side
-unfoldable pub waiting-on : Party → Left → List ℕ
-waiting-on Device l = l .device
-waiting-on Host l = l .host
 
 -- where a message that only 22 refuses waits first on the side whose turn it is, a batch stops before it, with 22: whatever waits behind
 -- it, whatever is lent, and as often as it is called, for nothing has changed
 abbrev pub StopsAtText : Type 0
 StopsAtText =
-    (t : Words) (s : State) (l : Left) (side : Party) (message rest : List ℕ) → awaited t s ≡ of-side side → refusal message ≡ 22
-    → waiting-on side l ≡ message ++ rest → batch-of t s l ≡ begun s (l .to-device) (l .to-host) (some (refused 22))
-
--- ---- demand 2 of batches
-
--- batches one after another, each at the state that the one before left, and all their steps
-pub data Batches (t : Words) : State → List Left → List Batch → List Event → Type 0 where
-  no-more : {s : State} → Batches t s [] [] []
-  taken-in : {s : State} {l : Left} {r : List Left} {mine : List Event} {bs : List Batch} {others : List Event}
-      → first-no (batch-questions t s) ≡ 0 → Singly t s l mine
-      → Batches t (state-after s mine) r bs others → Batches t s (l ∷ r) (summed s l mine ∷ bs) (mine ++ others)
-  turned-away : {s : State} {l : Left} {r : List Left} {bs : List Batch} {others : List Event} (q : ℕ)
-      → q ≡ first-no (batch-questions t s) → (q ≡ 0 → ⊥)
-      → Batches t s r bs others → Batches t s (l ∷ r) (begun s (l .to-device) (l .to-host) (some (refused q)) ∷ bs) others
-
--- what a program gets that calls the batch again and again, over one state
-unfoldable pub batch-calls : Words → State → List Left → List Batch
-batch-calls t s [] = []
-batch-calls t s (l ∷ r) = batch-of t s l ∷ batch-calls t (batch-of t s l .state) r
-
--- whatever waits and is lent at each call: the steps of all batches are one conversation, of which demand 2 holds message by message
-pub record WatchedBatches {A : Type 0} (rules : Rules A) (t : Words) (calls : List Left) : Type 0 where
-  pub events : List Event
-  pub batches : Batches t fresh calls (batch-calls t fresh calls) events
-  pub conversing : conversation t (map (λ (e : Event). e .sent) events) ≡ events
-  pub watched : Watched rules t (map (λ (e : Event). e .sent) events)
-
-abbrev pub BatchesWatched : Type 0
-BatchesWatched = (t : Words) → sound-of t ≡ true → (calls : List Left) → WatchedBatches (table-rules (view t)) t calls
+    (t : Words) (s : State) (c : Counts) (l : Both Left) (side : Party) (message rest : List ℕ) → counted-turn t s c ≡ of-side side
+    → refusal message ≡ 22 → at-side side l .bytes ≡ message ++ rest → batching t s c l ≡ begun s c l (some (refused 22))
 
 -- ---- none of them is early
 
@@ -221,8 +174,8 @@ DueInTurn =
     (t : Words) (s : State) (device host : RefT (List ℕ)) (buffer : List ℕ) → (due t s device host .1 ≡ [] → ⊥)
     → (side : Party) × InTurn t (event t s (record { side = side; bytes = due t s device host .1; buffer = buffer }))
 
--- and with every step of every batch, whatever waits and is lent at each call
-abbrev pub BatchesInTurn : Type 0
-BatchesInTurn =
-    (t : Words) (s : State) (calls : List Left) (batches : List Batch) (events : List Event) → Batches t s calls batches events
+-- and with every step of every batch, whatever waits and is lent
+abbrev pub BatchInTurn : Type 0
+BatchInTurn =
+    (t : Words) (s : State) (l : Both Left) (events : List Event) → Singly t s l events
     → (earlier : List Event) (e : Event) (later : List Event) → events ≡ earlier ++ (e ∷ later) → InTurn t e

@@ -7,18 +7,18 @@ use mathlib.Core.List.{List, [], _∷_, _++_, map}
 use mathlib.Core.Option.{Option, none, some}
 use Prim.Native.Nat.{ℕ, _≤_}
 use lib.ListN.{length}
+use lib.Dec.{leb}
 use Rattle.table.specs.Lists.{first-no}
 use Rattle.table.specs.Table.{is-choice, is-party}
 use Rattle.table.specs.View.{Words, edition-of, view, sound-of}
 use Rattle.table.specs.declared.Party.{Party}
-use Rattle.message.specs.Message.{read, well-formed}
+use Rattle.message.specs.Message.{read, whole, legal-values, exact, legal-texts, well-formed}
 use Rattle.message.specs.Judge.{forbidden}
 use Rattle.message.specs.Rules.{Rules, table-rules, Said, turn, next, led, listens, judge-said}
 use Rattle.conversation.specs.declared.Standing.{Standing}
 use Rattle.conversation.specs.declared.Standing.the-variants.{Running}
 use Rattle.conversation.specs.declared.State.{State}
-use Rattle.conversation.specs.declared.Stepped.{Stepped}
-use Rattle.conversation.specs.Step.{fresh, blame, of-message, Told, refused, blamed, forwarded, Outcome, refusing, blaming, forwarding, stepping, outcome}
+use Rattle.conversation.specs.Step.{fresh, blame, Told, refused, blamed, forwarded, Outcome, refusing, blaming, forwarding, stepping}
 
 -- ---- a conversation
 
@@ -87,12 +87,20 @@ pub record Judgeable {A : Type 0} (rules : Rules A) (earlier : List Event) (a : 
   pub formed : well-formed (m .bytes) ≡ true
   pub room : length (m .bytes) ≤ length (m .buffer)
 
--- the number of a refusal, or 0: 9 gets a yes, for the table is sound and the position one of its own
+-- the number of a refusal, or 0, in document 01's order. 9 gets a yes, for the table is sound and the position one of its own
 unfoldable pub refusal-of : {A : Type 0} → Rules A → List Event → A → Sent → ℕ
 refusal-of rules earlier a m =
     first-no
-    ((10, nobody (blamed-first earlier)) ∷ (11, is-choice (rules .sort a))
-    ∷ of-message (rules .edition) (rules .sort a) (m .side) (m .bytes) (length (m .buffer)))
+    ((9, true)
+    ∷ (10, nobody (blamed-first earlier))
+    ∷ (11, is-choice (rules .sort a))
+    ∷ (12, listens rules a (m .side))
+    ∷ (13, whole (m .bytes))
+    ∷ (14, legal-values (m .bytes))
+    ∷ (15, exact (m .bytes))
+    ∷ (22, legal-texts (m .bytes))
+    ∷ (16, leb (length (m .bytes)) (length (m .buffer)))
+    ∷ [])
 
 -- at the place a that the forwarded messages before it lead to
 pub record Handled {A : Type 0} (rules : Rules A) (earlier : List Event) (a : A) (e : Event) : Type 0 where
@@ -173,24 +181,3 @@ abbrev pub NoneEarly : Type 0
 NoneEarly =
     (t : Words) → sound-of t ≡ true → edition-of t ≡ 1 → (sent : List Sent) (earlier : List Event) (e : Event) (later : List Event)
     → conversation t sent ≡ earlier ++ (e ∷ later) → (side : Party) (f : Option ℕ) → e .done .verdict ≡ blamed side 4 f → ⊥
-
--- a message, the answer to it, and the output that is left
-pub record Reply : Type 0 where
-  pub sent : Sent
-  pub given : Stepped
-  pub output : List ℕ
-
--- each answer is a step's, at the state that the answer before gave: as those of `step` and `advance` are in a conversation that was started
--- (`StepsCounted` in Counting.antt)
-pub data Kept (t : Words) : State → List Reply → Type 0 where
-  no-more : {s : State} → Kept t s []
-  one-more : {s : State} {a : Reply} {r : List Reply}
-      → outcome (a .given) (a .output) ≡ stepping t s (a .sent .side) (a .sent .bytes) (a .sent .buffer)
-      → Kept t (a .given .state) r → Kept t s (a ∷ r)
-
--- such answers are what the conversation of their messages does: so whatever is said of conversations is said of programs
-abbrev pub RepliesKept : Type 0
-RepliesKept =
-    (t : Words) (answers : List Reply) → Kept t fresh answers
-    → map (λ (a : Reply). outcome (a .given) (a .output)) answers
-    ≡ map (λ (e : Event). e .done) (conversation t (map (λ (a : Reply). a .sent) answers))

@@ -4,22 +4,20 @@
 use mathlib.Core.Bool.{Bool, not, _&&_, _||_, cond}
 use mathlib.Core.List.{List, [], _∷_}
 use mathlib.Core.Option.{Option, none, some}
-use Prim.Native.Nat.{ℕ, zero, suc, _+_}
-use lib.ListN.{length, getD, set, replicate, take, drop}
+use Prim.Native.Nat.{ℕ, _+_}
+use lib.ListN.{getD, set, replicate}
 use lib.Dec.{leb, ltb, eqb}
 use Rattle.table.specs.Lists.{every, upto, sum-of, first-no}
 use Rattle.table.specs.Table.{is-choice, sort, of-choice}
 use Rattle.table.specs.View.{Words, states-of, branches-of, view, sound-of}
 use Rattle.table.specs.declared.Party.{Party}
-use Rattle.table.specs.declared.Party.the-variants.{Device, Host}
 use Rattle.message.specs.Message.{read}
 use Rattle.message.specs.Judge.{selected}
 use Rattle.conversation.specs.declared.State.{State}
 use Rattle.conversation.specs.declared.Started.{Started}
 use Rattle.conversation.specs.Step.{fresh, Told, refused, blamed, forwarded, Outcome, refusing, stepping}
-use Rattle.conversation.specs.Due.{Seen, Awaited, of-side, awaited, first-length, due-at}
+use Rattle.conversation.specs.Due.{Seen, Awaited, awaited, due-at}
 use Rattle.conversation.specs.Due as Due
-use Rattle.conversation.specs.Batch.{Lane, Batch, one-turn, batch-questions, begun, batching}
 use denote.Ref.{RefT}
 
 -- ---- the counts, as the program has them: z, n of each of 32 states, k of each of 128 branches
@@ -104,35 +102,3 @@ counted-turn t s c = cond (counts-sound t c) (awaited t s) (Due.refused 9)
 
 unfoldable pub counted-due : Words → State → Counts → RefT (List ℕ) → RefT (List ℕ) → Seen
 counted-due t s c device host = due-at (counted-turn t s c) device host
-
--- the message that a batch's turn takes: the first of what is left of the bytes of the side that is awaited
-unfoldable pub first-left : List ℕ → Lane → List ℕ
-first-left bytes l = let rest = drop (l .used) bytes in take (first-length rest) rest
-
-unfoldable pub awaited-message : Awaited → List ℕ → List ℕ → Batch → List ℕ
-awaited-message (Due.refused q) device host b = []
-awaited-message (of-side Device) device host b = first-left device (b .device)
-awaited-message (of-side Host) device host b = first-left host (b .host)
-
-unfoldable pub turn-message : Words → List ℕ → List ℕ → Batch → List ℕ
-turn-message t device host b = awaited-message (awaited t (b .state)) device host b
-
--- on after a forwarded message, with what it raised; else the counts stay, and it is over
-unfoldable pub count-on : (Batch → Counts → Counts) → Option Told × Batch → Counts → Counts → Counts
-count-on on (some forwarded, b) up c = on b up
-count-on on (some (refused q), b) up c = c
-count-on on (some (blamed side r f), b) up c = c
-count-on on (none, b) up c = c
-
--- the counts after at most n turns
-unfoldable pub counted-turns : ℕ → Words → List ℕ → List ℕ → Batch → Counts → Counts
-counted-turns zero t device host b c = c
-counted-turns (suc n) t device host b c =
-    count-on (counted-turns n t device host) (one-turn t device host b) (raised-at t (b .state .position) (turn-message t device host b) c) c
-
--- a batch: 9 on the counts, too
-unfoldable pub counted-batch : Words → State → Counts → List ℕ → List ℕ → List ℕ → List ℕ → Batch × Counts
-counted-batch t s c device host to-device to-host =
-    let start = begun s to-device to-host none in
-    let after = cond (eqb (first-no (batch-questions t s)) 0) (counted-turns (suc (length device + length host)) t device host start c) c in
-    cond (counts-sound t c) (batching t s device host to-device to-host, after) (begun s to-device to-host (some (refused 9)), c)

@@ -13,7 +13,6 @@ use Rattle.grammar.specs.Reading.{reads}
 use Rattle.spelling.specs.TextOf.{TextOf}
 use Rattle.types.specs.Types.{protocol-rules}
 use Rattle.conversation.specs.Conversation.{Sent, Watched, BlamedEarly}
-use Rattle.conversation.specs.Batches.{Left, WatchedBatches}
 use Rattle.machine.specs.Machine.{Safe, Unsafe}
 use Rattle.machine.specs.Answer.{Answer, fits, fails, Answered, FewestMoves}
 use Rattle.together.specs.Unblamed.{Keeps, Unblamed}
@@ -29,10 +28,6 @@ OneProtocol = (s : List ℕ) (p q : Protocol) → TextOf s p → TextOf s q → 
 -- demand 2: in every conversation each message is met in its place, by the rules of the type under its edition
 abbrev pub DemandTwoOfTexts : Type 0
 DemandTwoOfTexts = (s : List ℕ) (p : Protocol) → TextOf s p → (sent : List Sent) → Watched (protocol-rules p) (reads s .table) sent
-
--- and so by batches, each taking what is due of whatever waits: their steps are one conversation
-abbrev pub BatchesOfTexts : Type 0
-BatchesOfTexts = (s : List ℕ) (p : Protocol) → TextOf s p → (calls : List Left) → WatchedBatches (protocol-rules p) (reads s .table) calls
 
 -- in every conversation a sender is blamed with reason 4 exactly when its message is early, under edition 2
 abbrev pub EarlyOfTexts : Type 0

@@ -2,15 +2,18 @@
 -- whatever the host says, early or in turn, and whatever comes damaged or without room.
 -- Assumes nothing.
 use mathlib.Core.Path.{_≡_}
+use mathlib.Core.Logic.{_↔_}
 use mathlib.Core.Bool.{true}
-use mathlib.Core.List.{List, _∷_, _++_, map}
+use mathlib.Core.List.{List, _∷_, _++_}
 use mathlib.Core.Option.{Option, some}
-use Prim.Native.Nat.{ℕ}
+use Prim.Native.Nat.{ℕ, _≤_}
 use Rattle.table.specs.View.{Words, view, sound-of}
 use Rattle.table.specs.declared.Party.the-variants.{Device}
 use Rattle.message.specs.Rules.{Rules, table-rules, next, led}
-use Rattle.conversation.specs.Step.{fresh, told, blamed}
-use Rattle.conversation.specs.Conversation.{Sent, Event, conversation, said-by, forwarded-ones, blamed-first, Judgeable, Reply, Kept}
+use Rattle.conversation.specs.Step.{Told, blamed}
+use Rattle.conversation.specs.Conversation.{Sent, Event, conversation, said-by, forwarded-ones, blamed-first, Judgeable}
+use Rattle.conversation.specs.Counts.{starting}
+use Rattle.conversation.specs.Programs.{Call, Given, by-step, by-batch, CallsDone, run-from, messages-of}
 use Rattle.machine.specs.Machine.{Safe}
 
 module _ {D : Type 0} (d : Rules D) (p : Words) where
@@ -28,20 +31,32 @@ module _ {D : Type 0} (d : Rules D) (p : Words) where
     -- each forwarded message, the host's too, is one that the description has or takes there: so they lead somewhere in it
     pub followed : (x : D) × (led d (forwarded-ones (conversation p sent)) ≡ some x)
 
--- no answer blames the device
-abbrev pub NoReplyBlames : List Reply → Type 0
-NoReplyBlames answers =
-    (earlier : List Reply) (a : Reply) (later : List Reply) → answers ≡ earlier ++ (a ∷ later)
-    → (r : ℕ) (f : Option ℕ) → told (a .given .verdict) ≡ blamed Device r f → ⊥
-
 -- where no list of moves on the machine ends badly
 abbrev pub FitsUnblamed : Type 1
 FitsUnblamed =
     (D : Type 0) (d : Rules D) (p : Words) → sound-of p ≡ true → Safe d (table-rules (view p))
     → (sent : List Sent) → Keeps d p sent → Unblamed d p sent
 
--- and so of every list of answers that are steps, as those of `step` and `advance` are (`StepsCounted` in conversation/specs/Counting.antt)
-abbrev pub RepliesUnblamed : Type 1
-RepliesUnblamed =
-    (D : Type 0) (d : Rules D) (p : Words) → sound-of p ≡ true → Safe d (table-rules (view p))
-    → (answers : List Reply) → Kept p fresh answers → Keeps d p (map (λ (a : Reply). a .sent) answers) → NoReplyBlames answers
+-- no answer of a call blames the device: a step's, or a batch's last
+unfoldable pub told-last : Given → Option Told
+told-last (by-step (x, c)) = some (x .verdict)
+told-last (by-batch b) = b .last
+
+abbrev pub NoneBlames : List Given → Type 0
+NoneBlames answers =
+    (earlier : List Given) (g : Given) (later : List Given) → answers ≡ earlier ++ (g ∷ later)
+    → (r : ℕ) (f : Option ℕ) → told-last g ≡ some (blamed Device r f) → ⊥
+
+-- and so of programs: of every list of calls of a conversation that is started with a setting from 1 to 1000, and the steps that they come to
+abbrev pub CallsUnblamed : Type 1
+CallsUnblamed =
+    (D : Type 0) (d : Rules D) (p : Words) → sound-of p ≡ true → Safe d (table-rules (view p)) → (z : ℕ) → 1 ≤ z → z ≤ 1000
+    → (calls : List Call) (events : List Event)
+    → CallsDone p (starting p z .state) (starting p z .counts) calls (run-from p z calls .gives) events
+    → Keeps d p (messages-of events) → Unblamed d p (messages-of events) × NoneBlames (run-from p z calls .gives)
+
+-- a device whose description is the protocol itself keeps to it exactly in the conversations in which it is not blamed
+abbrev pub KeepsExactly : Type 0
+KeepsExactly =
+    (p : Words) → sound-of p ≡ true → (sent : List Sent)
+    → Keeps (table-rules (view p)) p sent ↔ (blamed-first (conversation p sent) ≡ some Device → ⊥)
