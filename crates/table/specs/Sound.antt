@@ -4,7 +4,6 @@
 use mathlib.Core.Path.{_≡_}
 use mathlib.Core.Logic.{_↔_, _⊎_}
 use mathlib.Core.Bool.{true, cond}
-use mathlib.Core.List.{List}
 use Prim.Native.Nat.{ℕ, zero, suc, _+_, _-_, _*_, _/_, _%_, _^_, _≤_, _<_}
 use lib.Dec.{eqb}
 use Rattle.table.specs.View.{Words, states-of, branches-of, sort-at, owner-at, target-at, count-at, word-at, kind-at, low-at, high-at, share-at, edition-of, sound-of, sound-at}
@@ -43,7 +42,7 @@ Bounds kind low high =
 -- ---- choices
 
 -- of numbers, one for each branch: those of state i's branches among the first n, added
-unfoldable pub added : List ℕ → (ℕ → ℕ) → ℕ → ℕ → ℕ
+unfoldable pub added : Words → (ℕ → ℕ) → ℕ → ℕ → ℕ
 added t f i zero = 0
 added t f i (suc k) = added t f i k + cond (eqb (owner-at t k) i) (f k) 0
 
