@@ -1,15 +1,14 @@
 -- The proofs of what specs/ states, each file named for a statement.
 pub mod BatchInTwo
 pub mod BatchSingly
-pub mod BatchesWatched
 pub mod CountsTally
 pub mod DemandTwo
 pub mod DueFound
 pub mod EarlyBlamed
 pub mod EstimateNearest
+pub mod NoneStarted
 pub mod NothingLost
 pub mod PicksAll
 pub mod SharesUnseen
-pub mod StepsCounted
 pub mod StopsAtText
 pub mod VerdictOnce

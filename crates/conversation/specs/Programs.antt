@@ -15,7 +15,7 @@ use Rattle.conversation.specs.Due.{Awaited, sender-awaited}
 use Rattle.conversation.specs.Conversation.{Sent, Event, event, conversation, forwarded-ones, blamed-first, Watched}
 use Rattle.conversation.specs.Counts.{Counts, starting, counted-step, counted-turn}
 use Rattle.conversation.specs.Batch.{Both, Left, Batch, begun, batching}
-use Rattle.conversation.specs.Batches.{Singly, state-after, counts-after, summed}
+use Rattle.conversation.specs.Batches.{Singly, counts-after, summed}
 use Rattle.conversation.specs.Counting.{Tallied}
 use Rattle.conversation.specs.Due as Due
 

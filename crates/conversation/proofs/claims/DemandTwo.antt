@@ -1,9 +1,8 @@
 -- Demand 2 over whole conversations: the state that verdicts and type give after each message is the program's, and each way of a step is right there.
 -- Assumes nothing.
 use Rattle.conversation.specs.Step.{fresh}
-use Rattle.conversation.specs.Conversation.{conversation, DemandTwo, RepliesKept}
-use Rattle.table.specs.Table as T
-use Rattle.conversation.proofs.laws.Conversation.{all-sent, each-right, played-by}
+use Rattle.conversation.specs.Conversation.{conversation, DemandTwo}
+use Rattle.conversation.proofs.laws.Conversation.{all-sent, each-right}
 
 pub demand-two : DemandTwo
 unfolding conversation
@@ -13,7 +12,3 @@ demand-two t sound sent =
       before = λ earlier e later h. each-right t sound sent earlier e later h .before;
       after = λ earlier e later h. each-right t sound sent earlier e later h .after;
     }
-
-pub replies-kept : RepliesKept
-unfolding conversation
-replies-kept t answers k = played-by t fresh answers k

@@ -22,8 +22,8 @@ use Rattle.conversation.specs.declared.State.{State}
 use Rattle.conversation.specs.Step.{may-speak, step-questions, blamed, Outcome, refusing, blaming, forwarding, stepping}
 use Rattle.conversation.specs.Due.{of-side, awaited}
 use Rattle.conversation.specs.Conversation.{Sent, Event, event, said-by, Judgeable, Early, EarlyBlamed, NoneEarly}
-use Rattle.conversation.specs.Batch.{Batch}
-use Rattle.conversation.specs.Batches.{Left, Single, Singly, none-due, stops, goes-on, Batches, no-more, taken-in, turned-away, InTurn, DueInTurn, BatchesInTurn}
+use Rattle.conversation.specs.Batch.{Both, Left}
+use Rattle.conversation.specs.Batches.{Single, Singly, none-due, stops, goes-on, InTurn, DueInTurn, BatchInTurn}
 use Rattle.conversation.proofs.laws.Step.{formed-then, asked-then, edition-is, said-in-turn, said-early, Way, refuses, forwards, blames, way}
 use Rattle.conversation.proofs.laws.Due.{open-here, speaks-here}
 use Rattle.conversation.proofs.claims.DueFound.{due-heard}
@@ -184,10 +184,6 @@ data All (P : Event → Type 0) : List Event → Type 0 where
   none-there : All P []
   one-there : {e : Event} {r : List Event} → P e → All P r → All P (e ∷ r)
 
-all-append : {P : Event → Type 0} {a b : List Event} → All P a → All P b → All P (a ++ b)
-all-append none-there y = y
-all-append (one-there p x) y = one-there p (all-append x y)
-
 all-at : {P : Event → Type 0} {events : List Event} → All P events → (earlier : List Event) (e : Event) (later : List Event)
     → events ≡ earlier ++ (e ∷ later) → P e
 all-at none-there [] e later h = nil-cons h
@@ -196,19 +192,13 @@ all-at {P} (one-there p x) [] e later h = subst P (cons-eq h .0) p
 all-at (one-there p x) (y ∷ r) e later h = all-at x r e later (cons-eq h .1)
 
 module _ (t : Words) where
-  single-in-turn : {s : State} {l : Left} {e : Event} → Single t s l e → InTurn t e
+  single-in-turn : {s : State} {l : Both Left} {e : Event} → Single t s l e → InTurn t e
   single-in-turn {s} {l} {e} x = subst (InTurn t) (sym (x .stepped)) (in-turn t s (e .sent) (x .turn))
 
-  singly-in-turn : {s : State} {l : Left} {events : List Event} → Singly t s l events → All (InTurn t) events
+  singly-in-turn : {s : State} {l : Both Left} {events : List Event} → Singly t s l events → All (InTurn t) events
   singly-in-turn (none-due h) = none-there
   singly-in-turn (stops x n) = one-there (single-in-turn x) none-there
   singly-in-turn (goes-on x f r) = one-there (single-in-turn x) (singly-in-turn r)
 
-  all-in-turn : {s : State} {calls : List Left} {batches : List Batch} {events : List Event}
-      → Batches t s calls batches events → All (InTurn t) events
-  all-in-turn no-more = none-there
-  all-in-turn (taken-in e x r) = all-append (singly-in-turn x) (all-in-turn r)
-  all-in-turn (turned-away q e n r) = all-in-turn r
-
-pub batches-in-turn : BatchesInTurn
-batches-in-turn t s calls batches events x = all-at (all-in-turn t x)
+pub batch-in-turn : BatchInTurn
+batch-in-turn t s l events x = all-at (singly-in-turn t x)

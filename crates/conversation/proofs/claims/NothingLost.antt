@@ -6,7 +6,7 @@ use mathlib.Core.Logic.{⊎-elim}
 use mathlib.Core.Bool.{Bool, true, false, cond}
 use mathlib.Core.List.{List, [], _∷_, _++_, append-assoc, append-nil, flatten}
 use mathlib.Core.Option.{Option, none, some}
-use Prim.Native.Nat.{ℕ, suc, _+_, _≤_}
+use Prim.Native.Nat.{ℕ, _+_, _≤_}
 use native.Mathlib.Omega.{arith}
 use lib.ListN.{length, take, drop, take-append-drop, length-drop}
 use lib.Seq.{length-take-le, take-at, drop-at, take-add, drop-drop}
@@ -14,7 +14,6 @@ use lib.Dec.{eqb}
 use Rattle.table.specs.Lists.{first-no, every}
 use Rattle.table.specs.View.{Words}
 use Rattle.table.specs.declared.Party.{Party}
-use Rattle.table.specs.declared.Party.the-variants.{Device, Host}
 use Rattle.table.proofs.laws.Lists.{never, join, every-append}
 use Rattle.message.specs.Message.{well-formed}
 use Rattle.message.specs.Make.{opening}
@@ -22,13 +21,15 @@ use Rattle.message.proofs.laws.Message.{well-formed-exactly}
 use Rattle.conversation.specs.declared.State.{State}
 use Rattle.conversation.specs.Step.{is-running, step-questions, Told, refused, Outcome, refusing, blaming, forwarding, stepping}
 use Rattle.conversation.specs.Due.{first-length}
-use Rattle.conversation.specs.Batch.{Lane, used-by, written-by, Taken, taken, taking, Batch, device-took, host-took, one-turn, turns, batch-questions, begun, batching}
-use Rattle.conversation.specs.Batches.{Left, Messages, Accounted, NothingLostOf, NothingLost}
+use Rattle.conversation.specs.Counts.{Counts}
+use Rattle.conversation.specs.Batch.{Both, at-side, Left, Lane, used-by, written-by, lane-on, Taken, taking, Batch, took, one-turn, turns, batch-questions, begun, batching}
+use Rattle.conversation.specs.Batches.{Messages, Accounted, NothingLostOf, NothingLost}
 use Rattle.conversation.specs.Conversation.{is-forwarded}
 use Rattle.conversation.specs.inner.Keeping.{is-last-forwarded}
 use Rattle.conversation.proofs.laws.Step.{zero-or, heard-formed, Way, refuses, forwards, blames, way}
 use Rattle.conversation.proofs.laws.Due.{first-within}
-use Rattle.conversation.proofs.laws.Batch.{takes-none, takes-one, turn-by}
+use Rattle.conversation.proofs.laws.Batch.{untouched, taken, takes-none, takes-one, takes, turn-by, enough-turns}
+use Rattle.conversation.proofs.laws.Both.{each-by, set-by}
 use Rattle.conversation.proofs.laws.Turns.{turns-keep, blame-stops}
 
 -- ---- one message more
@@ -40,33 +41,45 @@ module _ (m : List ℕ) where
   flatten-last (x ∷ r) = ap (λ l. x ++ l) (flatten-last r) ∙ sym (append-assoc x (flatten r) m)
 
 -- a side's bytes, and the other side's output as it was
-module _ (bytes before : List ℕ) where
-  more-messages : (k n : ℕ) → Messages bytes k → well-formed (take n (drop k bytes)) ≡ true → Messages bytes (k + n)
+module _ (g : Left) where
+  more-messages : (k n : ℕ) → Messages (g .bytes) k → well-formed (take n (drop k (g .bytes))) ≡ true → Messages (g .bytes) (k + n)
   unfolding every
-  more-messages k n (row, e, j) f = (
-    row ++ (take n (drop k bytes) ∷ []),
-    every-append well-formed row (take n (drop k bytes) ∷ []) e (join f refl),
-    flatten-last (take n (drop k bytes)) row ∙ ap (λ l. l ++ take n (drop k bytes)) j ∙ sym (take-add k n bytes),
-  )
-
-  nothing : Accounted bytes before (record { used = 0; written = 0; output = before })
-  unfolding every flatten
-  nothing = record { used = omega arith; messages = ([], refl, refl); passed = ([], refl, refl); written = omega arith; forwards = refl }
+  more-messages k n (row, e, j) f =
+      let m = take n (drop k (g .bytes)) in (
+        row ++ (m ∷ []),
+        every-append well-formed row (m ∷ []) e (join f refl),
+        flatten-last m row ∙ ap (λ l. l ++ m) j ∙ sym (take-add k n (g .bytes)),
+      )
 
   -- as long as every message was forwarded
   record Even (l : Lane) : Type 0 where
-    pub accounted : Accounted bytes before l
+    pub accounted : Accounted g l
     pub even : l .used ≡ l .written
+
+  nothing : Even (untouched (g .output))
+  unfolding every flatten
+  nothing =
+      record {
+        accounted =
+            record { used = omega arith; messages = ([], refl, refl); passed = ([], refl, refl); written = omega arith; forwards = refl };
+        even = refl;
+      }
 
   -- after a side's turn
   record After (x : Taken) : Type 0 where
-    pub accounted : Accounted bytes before (x .lane)
+    pub accounted : Accounted g (x .lane)
     pub again : is-last-forwarded (x .answer) ≡ true → x .lane .used ≡ x .lane .written
     pub unblamed : is-running (x .state .standing) ≡ true → x .lane .used ≡ x .lane .written
 
   module _ (l : Lane) (v : Even l) where
-    a : Accounted bytes before l
+    a : Accounted g l
     a = v .accounted
+
+    abbrev bytes : List ℕ
+    bytes = g .bytes
+
+    abbrev before : List ℕ
+    before = g .output
 
     long : length (take (l .written) bytes) ≡ l .written
     long = length-take-le (l .written) bytes (omega (arith, v .even, a .used))
@@ -104,9 +117,9 @@ module _ (bytes before : List ℕ) where
           → well-formed (message n) ≡ true
       formed t s side e = well-formed-exactly (message n) .1 (heard-formed t s side (message n) (length room) e)
 
-      after-by : (t : Words) (s : State) (side : Party) (x : Outcome) → Way t s side (message n) room x → After (taken n x l)
-      unfolding taken used-by written-by refusing blaming forwarding is-last-forwarded is-forwarded
-      after-by t s side x (refuses q e z) =
+      after-by : (t : Words) (s : State) (c : Counts) (side : Party) (x : Outcome) → Way t s side (message n) room x → After (taken t s c n (message n) x l)
+      unfolding lane-on used-by written-by refusing blaming forwarding is-last-forwarded is-forwarded
+      after-by t s c side x (refuses q e z) =
           let u : l .used ≡ l .used + 0 = omega arith in
           let w : l .written ≡ l .written + 0 = omega arith in
           record {
@@ -121,7 +134,7 @@ module _ (bytes before : List ℕ) where
             again = λ h. omega (arith, v .even);
             unblamed = λ h. omega (arith, v .even);
           }
-      after-by t s side x (blames e r g z) =
+      after-by t s c side x (blames e r g z) =
           let w : l .written ≡ l .written + 0 = omega arith in
           record {
             accounted =
@@ -135,7 +148,7 @@ module _ (bytes before : List ℕ) where
             again = λ h. never h refl;
             unblamed = λ h. never h (blame-stops side);
           }
-      after-by t s side x (forwards e j z) =
+      after-by t s c side x (forwards e j z) =
           record {
             accounted =
                 record {
@@ -149,83 +162,62 @@ module _ (bytes before : List ℕ) where
             unblamed = λ h. omega (arith, v .even);
           }
 
-    after-taking : (t : Words) (s : State) (side : Party) → After (taking t s side bytes l)
-    after-taking t s side = ⊎-elim one no (zero-or (first-length (drop (l .used) bytes)))
+    after-taking : (t : Words) (s : State) (c : Counts) (side : Party) → After (taking t s c side bytes l)
+    after-taking t s c side = ⊎-elim one no (zero-or (first-length (drop (l .used) bytes)))
       where
-        no : first-length (drop (l .used) bytes) ≡ 0 → After (taking t s side bytes l)
-        no z = subst After (sym (takes-none t s side bytes l z)) (record { accounted = a; again = λ h. v .even; unblamed = λ h. v .even })
+        no : first-length (drop (l .used) bytes) ≡ 0 → After (taking t s c side bytes l)
+        no z = subst After (sym (takes-none t s c side bytes l z)) (record { accounted = a; again = λ h. v .even; unblamed = λ h. v .even })
 
-        one : (first-length (drop (l .used) bytes) ≡ 0 → ⊥) → After (taking t s side bytes l)
+        one : (first-length (drop (l .used) bytes) ≡ 0 → ⊥) → After (taking t s c side bytes l)
         one n =
             let k = first-length (drop (l .used) bytes) in
-            subst After (sym (takes-one t s side bytes l n))
-            (after-by k (first-within (drop (l .used) bytes)) t s side (stepping t s side (message k) room) (way t s side (message k) room))
+            subst After (sym (takes-one t s c side bytes l n))
+            (after-by k (first-within (drop (l .used) bytes)) t s c side (stepping t s side (message k) room) (way t s side (message k) room))
 
 -- ---- all turns
 
-module _ (g : Left) where
-  record BothEven (b : Batch) : Type 0 where
-    pub from-device : Even (g .device) (g .to-host) (b .device)
-    pub from-host : Even (g .host) (g .to-device) (b .host)
+module _ (g : Both Left) where
+  abbrev AllEven : Batch → Type 0
+  AllEven b = (side : Party) → Even (at-side side g) (at-side side (b .lanes))
 
-  none-lost : (b : Batch) → BothEven b → NothingLostOf g b
-  none-lost b v =
-      record {
-        from-device = v .from-device .accounted;
-        from-host = v .from-host .accounted;
-        unblamed = λ h. (v .from-device .even, v .from-host .even);
-      }
+  none-lost : (b : Batch) → AllEven b → NothingLostOf g b
+  none-lost b v = record { accounted = λ side. v side .accounted; unblamed = λ h side. v side .even }
 
   record Turned (r : Option Told × Batch) : Type 0 where
     pub lost : NothingLostOf g (r .1)
-    pub again : is-last-forwarded (r .0) ≡ true → BothEven (r .1)
+    pub again : is-last-forwarded (r .0) ≡ true → AllEven (r .1)
 
-  turned : (t : Words) (b : Batch) → BothEven b → Turned (one-turn t (g .device) (g .host) b)
-  unfolding device-took host-took
+  turned : (t : Words) (b : Batch) → AllEven b → Turned (one-turn t g b)
+  unfolding took
   turned t b v =
-      turn-by t (g .device) (g .host) Turned b (λ q e. record { lost = none-lost b v; again = λ h. v })
-      (λ e.
-      let x = after-taking (g .device) (g .to-host) (b .device) (v .from-device) t (b .state) Device in
+      turn-by t g Turned b (λ q e. record { lost = none-lost b v; again = λ h. v })
+      (λ side e.
+      let y = takes t g b side in
+      let x = after-taking (at-side side g) (at-side side (b .lanes)) (v side) t (b .state) (b .counts) side in
       record {
         lost =
             record {
-              from-device = x .accounted;
-              from-host = v .from-host .accounted;
-              unblamed = λ h. (x .unblamed h, v .from-host .even);
+              accounted = set-by (λ p l. Accounted (at-side p g) l) side (y .lane) (b .lanes) (x .accounted) (λ p o. v p .accounted);
+              unblamed = λ h. set-by (λ p l. l .used ≡ l .written) side (y .lane) (b .lanes) (x .unblamed h) (λ p o. v p .even);
             };
-        again = λ h. record { from-device = record { accounted = x .accounted; even = x .again h }; from-host = v .from-host };
-      })
-      (λ e.
-      let x = after-taking (g .host) (g .to-device) (b .host) (v .from-host) t (b .state) Host in
-      record {
-        lost =
-            record {
-              from-device = v .from-device .accounted;
-              from-host = x .accounted;
-              unblamed = λ h. (v .from-device .even, x .unblamed h);
-            };
-        again = λ h. record { from-device = v .from-device; from-host = record { accounted = x .accounted; even = x .again h } };
+        again = λ h.
+            set-by (λ p l. Even (at-side p g) l) side (y .lane) (b .lanes) (record { accounted = x .accounted; even = x .again h }) (λ p o. v p);
       })
 
-  begun-even : (s : State) (last : Option Told) → BothEven (begun s (g .to-device) (g .to-host) last)
+  begun-even : (s : State) (c : Counts) (last : Option Told) → AllEven (begun s c g last)
   unfolding begun
-  begun-even s last =
-      record {
-        from-device = record { accounted = nothing (g .device) (g .to-host); even = refl };
-        from-host = record { accounted = nothing (g .host) (g .to-device); even = refl };
-      }
+  begun-even s c last =
+      each-by (λ side l. Even (at-side side g) l) (λ side. untouched (at-side side g .output)) (λ side. nothing (at-side side g))
 
--- any table, any state
+-- any table, any state, any counts
 pub nothing-lost : NothingLost
 unfolding batching
-nothing-lost t s g = by (eqb (first-no (batch-questions t s)) 0)
+nothing-lost t s c g = by (eqb (first-no (batch-questions t s c)) 0)
   where
-    all : Batch
-    all = turns (suc (length (g .device) + length (g .host))) t (g .device) (g .host) (begun s (g .to-device) (g .to-host) none)
-
-    by : (y : Bool) → NothingLostOf g (cond y all (begun s (g .to-device) (g .to-host) (some (refused (first-no (batch-questions t s))))))
+    by : (y : Bool)
+        → NothingLostOf g
+        (cond y (turns (enough-turns g) t g (begun s c g none)) (begun s c g (some (refused (first-no (batch-questions t s c))))))
     by true =
-        turns-keep t (g .device) (g .host) (BothEven g) (NothingLostOf g) (none-lost g) (λ b v. turned g t b v .lost)
-        (λ b v h. turned g t b v .again h) (suc (length (g .device) + length (g .host))) (begun s (g .to-device) (g .to-host) none)
-        (begun-even g s none)
-    by false = none-lost g (begun s (g .to-device) (g .to-host) (some (refused _))) (begun-even g s (some (refused _)))
+        turns-keep t g (AllEven g) (NothingLostOf g) (none-lost g) (λ b v. turned g t b v .lost) (λ b v h. turned g t b v .again h)
+        (enough-turns g) (begun s c g none) (begun-even g s c none)
+    by false = none-lost g (begun s c g (some (refused _))) (begun-even g s c (some (refused _)))

@@ -4,14 +4,13 @@ use mathlib.Core.Path.{_≡_, refl, ap, ap₂, _∙_}
 use mathlib.Core.Bool.{Bool, not, _&&_, _||_}
 use mathlib.Core.List.{List, [], _∷_}
 use mathlib.Core.Option.{Option, none, some}
-use Prim.Native.Nat.{ℕ, zero, suc, _+_}
+use Prim.Native.Nat.{ℕ, zero, suc}
 use lib.ListN.{length, take, drop, getD}
 use lib.Dec.{leb, eqb}
 use Rattle.table.specs.Lists.{every, upto, sum-of}
 use Rattle.table.specs.Table.{Sort, ends, Branch, is-choice, Table, sort, of-choice, unshared}
 use Rattle.table.specs.View.{Words, states-of, branches-of, view, SharesAside, EditionAside}
 use Rattle.table.specs.declared.Party.{Party}
-use Rattle.table.specs.declared.Party.the-variants.{Device, Host}
 use Rattle.table.proofs.laws.Unshared.{editions-too, same-sort, same-states, same-count, same-sound}
 use Rattle.message.specs.Message.{Message, read}
 use Rattle.message.specs.Judge.{selected, judge}
@@ -21,10 +20,11 @@ use Rattle.conversation.specs.Step.{of-state, step-questions, Told, refu
 use Rattle.conversation.specs.Due.{Awaited, of-side, awaited, first-length}
 use Rattle.conversation.specs.Due as Due
 use Rattle.conversation.specs.Conversation.{Sent, Event, event, played, conversation}
-use Rattle.conversation.specs.Batch.{Lane, Batch, taking, device-took, host-took, turn-of, one-turn, go-on, turns, batch-questions, begun, batching}
-use Rattle.conversation.specs.Batches.{Left, batch-of}
+use Rattle.conversation.specs.Batch.{Both, at-side, Left, Lane, Batch, taking, took, turn-of, one-turn, go-on, turns, batch-questions, begun, batching}
+use Rattle.conversation.specs.Batches.{counts-after}
 use Rattle.conversation.specs.Counts.{Counts, setting-of, n-at, k-at, counted-most, legal-setting, adds-up, counts-sound, raised-by, raised-at, counted}
-use Rattle.conversation.specs.Counting.{counts-after, SharesUnseen}
+use Rattle.conversation.specs.Counting.{SharesUnseen}
+use Rattle.conversation.proofs.laws.Batch.{enough-turns}
 
 module _ (t u : Words) (h : SharesAside t u) where
   a : EditionAside t u
@@ -72,44 +72,6 @@ module _ (t u : Words) (h : SharesAside t u) where
       ap (λ x. x ∷ played t (x .done .state) r) (same-event s m)
       ∙ ap (λ l. event u s m ∷ l) (same-played (event u s m .done .state) r)
 
-  -- ---- batches
-
-  same-taking : (s : State) (side : Party) (bytes : List ℕ) (l : Lane) → taking t s side bytes l ≡ taking u s side bytes l
-  unfolding taking
-  same-taking s side bytes l =
-      let rest = drop (l .used) bytes in
-      rw (same-step s side (take (first-length rest) rest) (drop (l .written) (l .output)))
-
-  module _ (device host : List ℕ) where
-    same-one : (b : Batch) → one-turn t device host b ≡ one-turn u device host b
-    unfolding one-turn turn-of
-    same-one b = ap (turn-of t device host b) (same-turn (b .state)) ∙ by (awaited u (b .state))
-      where
-        by : (o : Awaited) → turn-of t device host b o ≡ turn-of u device host b o
-        by (Due.refused q) = refl
-        by (of-side Device) = ap (λ x. device-took x b) (same-taking (b .state) Device device (b .device))
-        by (of-side Host) = ap (λ x. host-took x b) (same-taking (b .state) Host host (b .host))
-
-    same-turns : (n : ℕ) (b : Batch) → turns n t device host b ≡ turns n u device host b
-    unfolding turns go-on
-    same-turns zero b = refl
-    same-turns (suc n) b = ap (go-on (turns n t device host)) (same-one b) ∙ by (one-turn u device host b) (same-turns n)
-      where
-        by : (r : Option Told × Batch) → ((b : Batch) → turns n t device host b ≡ turns n u device host b)
-            → go-on (turns n t device host) r ≡ go-on (turns n u device host) r
-        by (none, x) on = refl
-        by (some (refused q), x) on = refl
-        by (some (blamed side w g), x) on = refl
-        by (some forwarded, x) on = on x
-
-  same-batch : (s : State) (l : Left) → batch-of t s l ≡ batch-of u s l
-  unfolding batching batch-questions
-  same-batch s l =
-      rw (
-        same-sound t u a (s .position),
-        same-turns (l .device) (l .host) (suc (length (l .device) + length (l .host))) (begun s (l .to-device) (l .to-host) none),
-      )
-
   -- ---- counts
 
   same-counted : (s : State) (message : List ℕ) (v : Told) (c : Counts) → counted t s message v c ≡ counted u s message v c
@@ -137,6 +99,41 @@ module _ (t u : Words) (h : SharesAside t u) where
   same-nine c =
       ap₂ (λ a b. nine-by c a b (states-of t) (branches-of t)) (a .sorts) (a .branches)
       ∙ ap₂ (nine-by c (view u .sorts) (view u .branches)) (same-states t u a) (same-count t u a)
+
+  -- ---- batches
+
+  same-taking : (s : State) (c : Counts) (side : Party) (bytes : List ℕ) (l : Lane) → taking t s c side bytes l ≡ taking u s c side bytes l
+  unfolding taking
+  same-taking s c side bytes l =
+      let left = drop (l .used) bytes in
+      let message = take (first-length left) left in
+      let room = drop (l .written) (l .output) in
+      rw (same-step s side message room, same-counted s message (stepping u s side message room .verdict) c)
+
+  module _ (l : Both Left) where
+    same-one : (b : Batch) → one-turn t l b ≡ one-turn u l b
+    unfolding one-turn turn-of
+    same-one b = ap (turn-of t l b) (same-turn (b .state)) ∙ by (awaited u (b .state))
+      where
+        by : (o : Awaited) → turn-of t l b o ≡ turn-of u l b o
+        by (Due.refused q) = refl
+        by (of-side side) =
+            ap (λ x. took side x b) (same-taking (b .state) (b .counts) side (at-side side l .bytes) (at-side side (b .lanes)))
+
+    same-turns : (n : ℕ) (b : Batch) → turns n t l b ≡ turns n u l b
+    unfolding turns go-on
+    same-turns zero b = refl
+    same-turns (suc n) b = ap (go-on (turns n t l)) (same-one b) ∙ by (one-turn u l b) (same-turns n)
+      where
+        by : (r : Option Told × Batch) → ((b : Batch) → turns n t l b ≡ turns n u l b) → go-on (turns n t l) r ≡ go-on (turns n u l) r
+        by (none, x) on = refl
+        by (some (refused q), x) on = refl
+        by (some (blamed side w g), x) on = refl
+        by (some forwarded, x) on = on x
+
+  same-batch : (s : State) (c : Counts) (l : Both Left) → batching t s c l ≡ batching u s c l
+  unfolding batching batch-questions
+  same-batch s c l = rw (same-sound t u a (s .position), same-nine c, same-turns l (enough-turns l) (begun s c l none))
 
 pub shares-unseen : SharesUnseen
 unfolding conversation

@@ -28,12 +28,14 @@ use Rattle.conversation.specs.declared.State.{State}
 use Rattle.conversation.specs.Step.{is-running, of-state, step-questions, Told, refused, blamed, forwarded, Outcome, refusing, blaming, forwarding, stepping}
 use Rattle.conversation.specs.Due.{Awaited, of-side, awaited, first-length}
 use Rattle.conversation.specs.Due as Due
-use Rattle.conversation.specs.Batch.{Lane, used-by, written-by, Taken, taken, taking, Batch, device-took, host-took, turn-of, one-turn, go-on, turns, batch-questions, begun, batching}
+use Rattle.conversation.specs.Counts.{Counts, counted}
+use Rattle.conversation.specs.Batch.{Both, at-side, set-side, Left, Lane, used-by, written-by, lane-on, Taken, taking, Batch, took, turn-of, one-turn, go-on, turns, batch-questions, begun, batching}
 use Rattle.conversation.specs.Conversation.{is-forwarded}
 use Rattle.conversation.specs.inner.Keeping.{Heard, LaneIn, Within, is-last-forwarded}
 use Rattle.conversation.proofs.laws.Step.{zero-or, entered, at-end, at-choice, opened, Ready, ready, asked-then, said-in-turn, target-of, said-here, refused-step, Way, refuses, forwards, blames, way}
 use Rattle.conversation.proofs.laws.Due.{refused-turn, device-awaited, host-awaited, first-within, first-cut, first-framed, open-here, speaks-here, framed-heard}
 use Rattle.conversation.proofs.laws.Conversation.{said-leads, next-state}
+use Rattle.conversation.proofs.laws.Both.{each-by, set-by}
 
 -- ---- a sound table and one of its states
 
@@ -128,7 +130,21 @@ used-few forwarded n = omega arith
 
 -- ---- one side's turn
 
-module _ (t : Words) (s : State) (side : Party) (bytes : List ℕ) (l : Lane) where
+-- nothing used, nothing written
+abbrev pub untouched : List ℕ → Lane
+untouched out = record { used = 0; written = 0; output = out }
+
+-- after a step on a message of n bytes
+abbrev pub taken : Words → State → Counts → ℕ → List ℕ → Outcome → Lane → Taken
+taken t s c n message x l =
+    record {
+      answer = some (x .verdict);
+      state = x .state;
+      counts = counted t s message (x .verdict) c;
+      lane = lane-on (x .verdict) n (x .output) l;
+    }
+
+module _ (t : Words) (s : State) (c : Counts) (side : Party) (bytes : List ℕ) (l : Lane) where
   abbrev rest : List ℕ
   rest = drop (l .used) bytes
 
@@ -138,11 +154,12 @@ module _ (t : Words) (s : State) (side : Party) (bytes : List ℕ) (l : Lane) wh
   abbrev message : List ℕ
   message = take (first-length rest) rest
 
-  pub takes-none : first-length rest ≡ 0 → taking t s side bytes l ≡ record { answer = none; state = s; lane = l }
+  pub takes-none : first-length rest ≡ 0 → taking t s c side bytes l ≡ record { answer = none; state = s; counts = c; lane = l }
   unfolding taking
   takes-none e = rw e
 
-  pub takes-one : (first-length rest ≡ 0 → ⊥) → taking t s side bytes l ≡ taken (first-length rest) (stepping t s side message room) l
+  pub takes-one : (first-length rest ≡ 0 → ⊥)
+      → taking t s c side bytes l ≡ taken t s c (first-length rest) message (stepping t s side message room) l
   unfolding taking
   takes-one n = rw (ne-eqb (first-length rest) 0 n)
 
@@ -174,11 +191,11 @@ module _ (t : Words) (s : State) (side : Party) (bytes : List ℕ) (l : Lane) wh
     pub sound : sound-at t (x .state .position) ≡ true
     pub moves : is-last-forwarded (x .answer) ≡ true → l .used < x .lane .used
 
-  pub taking-moved : awaited t s ≡ of-side side → sound-at t (s .position) ≡ true → LaneIn bytes l → Moved (taking t s side bytes l)
-  unfolding is-last-forwarded is-forwarded taken used-by
+  pub taking-moved : awaited t s ≡ of-side side → sound-at t (s .position) ≡ true → LaneIn bytes l → Moved (taking t s c side bytes l)
+  unfolding is-last-forwarded is-forwarded lane-on used-by
   taking-moved a e i = ⊎-elim one no (zero-or (first-length rest))
     where
-      no : first-length rest ≡ 0 → Moved (taking t s side bytes l)
+      no : first-length rest ≡ 0 → Moved (taking t s c side bytes l)
       no z = subst Moved (sym (takes-none z)) (record { inside = i; sound = e; moves = λ h. never h refl })
 
       all-used : (v : Told) → is-last-forwarded (some v) ≡ true → used-by v (first-length rest) ≡ first-length rest
@@ -186,7 +203,7 @@ module _ (t : Words) (s : State) (side : Party) (bytes : List ℕ) (l : Lane) wh
       all-used (blamed p r f) h = never h refl
       all-used forwarded h = refl
 
-      one : (first-length rest ≡ 0 → ⊥) → Moved (taking t s side bytes l)
+      one : (first-length rest ≡ 0 → ⊥) → Moved (taking t s c side bytes l)
       one n =
           subst Moved (sym (takes-one n))
           (record {
@@ -206,47 +223,52 @@ module _ (t : Words) (s : State) (side : Party) (bytes : List ℕ) (l : Lane) wh
 -- ---- one turn
 
 -- the bytes that are left
-abbrev pub left : List ℕ → List ℕ → ℕ → ℕ → ℕ
-left device host u v = (length device - u) + (length host - v)
+abbrev pub left : Both Left → Both Lane → ℕ
+left l x = (length (l .device .bytes) - x .device .used) + (length (l .host .bytes) - x .host .used)
 
-module _ (t : Words) (device host : List ℕ) where
-  pub turn-is : (b : Batch) (o : Awaited) → awaited t (b .state) ≡ o → one-turn t device host b ≡ turn-of t device host b o
+less-left : (l : Both Left) (x : Both Lane) (side : Party) (a : Lane) → at-side side x .used < a .used → a .used ≤ length (at-side side l .bytes)
+    → left l (set-side side a x) < left l x
+unfolding at-side set-side
+less-left l x Device a h i = omega (arith, h, i)
+less-left l x Host a h i = omega (arith, h, i)
+
+module _ (t : Words) (l : Both Left) where
+  -- what comes of a side's turn
+  abbrev pub takes : Batch → Party → Taken
+  takes b side = taking t (b .state) (b .counts) side (at-side side l .bytes) (at-side side (b .lanes))
+
+  pub turn-is : (b : Batch) (o : Awaited) → awaited t (b .state) ≡ o → one-turn t l b ≡ turn-of t l b o
   unfolding one-turn
-  turn-is b o e = ap (turn-of t device host b) e
+  turn-is b o e = ap (turn-of t l b) e
 
   -- whoever has it
   pub turn-by : (P : Option Told × Batch → Type 0) (b : Batch) → ((q : ℕ) → awaited t (b .state) ≡ Due.refused q → P (none, b))
-      → (awaited t (b .state) ≡ of-side Device → P (device-took (taking t (b .state) Device device (b .device)) b))
-      → (awaited t (b .state) ≡ of-side Host → P (host-took (taking t (b .state) Host host (b .host)) b))
-      → P (one-turn t device host b)
+      → ((side : Party) → awaited t (b .state) ≡ of-side side → P (took side (takes b side) b)) → P (one-turn t l b)
   unfolding turn-of
-  turn-by P b nobodys devices hosts = by (awaited t (b .state)) refl
+  turn-by P b nobodys sides = by (awaited t (b .state)) refl
     where
-      by : (o : Awaited) → awaited t (b .state) ≡ o → P (one-turn t device host b)
+      by : (o : Awaited) → awaited t (b .state) ≡ o → P (one-turn t l b)
       by (Due.refused q) e = subst P (sym (turn-is b (Due.refused q) e)) (nobodys q e)
-      by (of-side Device) e = subst P (sym (turn-is b (of-side Device) e)) (devices e)
-      by (of-side Host) e = subst P (sym (turn-is b (of-side Host) e)) (hosts e)
+      by (of-side side) e = subst P (sym (turn-is b (of-side side) e)) (sides side e)
 
   pub record Stays (b : Batch) (r : Option Told × Batch) : Type 0 where
-    pub within : Within t device host (r .1)
-    pub falls : is-last-forwarded (r .0) ≡ true
-        → left device host (r .1 .device .used) (r .1 .host .used) < left device host (b .device .used) (b .host .used)
+    pub within : Within t l (r .1)
+    pub falls : is-last-forwarded (r .0) ≡ true → left l (r .1 .lanes) < left l (b .lanes)
 
-  pub stays : (b : Batch) → Within t device host b → Stays b (one-turn t device host b)
-  unfolding is-last-forwarded is-forwarded device-took host-took
+  pub stays : (b : Batch) → Within t l b → Stays b (one-turn t l b)
+  unfolding is-last-forwarded is-forwarded took
   stays b w =
       turn-by (Stays b) b (λ q e. record { within = w; falls = λ h. never h refl })
-      (λ e.
-      let m = taking-moved t (b .state) Device device (b .device) e (w .sound) (w .from-device) in
+      (λ side e.
+      let x = takes b side in
+      let m = taking-moved t (b .state) (b .counts) side (at-side side l .bytes) (at-side side (b .lanes)) e (w .sound) (w .inside side) in
       record {
-        within = record { sound = m .sound; from-device = m .inside; from-host = w .from-host };
-        falls = λ h. omega (arith, m .moves h, m .inside .used);
-      })
-      (λ e.
-      let m = taking-moved t (b .state) Host host (b .host) e (w .sound) (w .from-host) in
-      record {
-        within = record { sound = m .sound; from-device = w .from-device; from-host = m .inside };
-        falls = λ h. omega (arith, m .moves h, m .inside .used);
+        within =
+            record {
+              sound = m .sound;
+              inside = set-by (λ p a. LaneIn (at-side p l .bytes) a) side (x .lane) (b .lanes) (m .inside) (λ p o. w .inside p);
+            };
+        falls = λ h. less-left l (b .lanes) side (x .lane) (m .moves h) (m .inside .used);
       })
 
 -- ---- on, or over
@@ -267,23 +289,25 @@ on-over f r h = go-on-by (λ c. c ≡ r .1) f r (λ k. never k h) (λ k. refl)
 
 -- ---- the whole
 
-module _ (t : Words) (device host : List ℕ) (s : State) (to-device to-host : List ℕ) where
-  pub begun-within : first-no (batch-questions t s) ≡ 0 → Within t device host (begun s to-device to-host none)
+-- a batch's number of turns
+abbrev pub enough-turns : Both Left → ℕ
+enough-turns l = suc (length (l .device .bytes) + length (l .host .bytes))
+
+module _ (t : Words) (l : Both Left) (s : State) (c : Counts) where
+  pub begun-within : first-no (batch-questions t s c) ≡ 0 → Within t l (begun s c l none)
   unfolding begun
   begun-within e =
       record {
-        sound = let x = entered t s e in parts-sound t (s .position) (x .sound) (x .below);
-        from-device = record { used = omega arith; written = omega arith };
-        from-host = record { used = omega arith; written = omega arith };
+        sound = let x = entered t s c e in parts-sound t (s .position) (x .sound) (x .below);
+        inside =
+            each-by (λ side a. LaneIn (at-side side l .bytes) a) (λ side. untouched (at-side side l .output))
+            (λ side. record { used = omega arith; written = omega arith });
       }
 
-  pub kept-out : (q : ℕ) → q ≡ first-no (batch-questions t s) → (q ≡ 0 → ⊥)
-      → begun s to-device to-host (some (refused q)) ≡ batching t s device host to-device to-host
+  pub kept-out : (q : ℕ) → q ≡ first-no (batch-questions t s c) → (q ≡ 0 → ⊥) → begun s c l (some (refused q)) ≡ batching t s c l
   unfolding batching
   kept-out q e n = rw (sym e, ne-eqb q 0 n)
 
-  pub let-in : first-no (batch-questions t s) ≡ 0
-      → turns (suc (length device + length host)) t device host (begun s to-device to-host none)
-      ≡ batching t s device host to-device to-host
+  pub let-in : first-no (batch-questions t s c) ≡ 0 → turns (enough-turns l) t l (begun s c l none) ≡ batching t s c l
   unfolding batching
   let-in e = rw e

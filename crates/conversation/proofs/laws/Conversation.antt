@@ -23,9 +23,10 @@ use Rattle.message.proofs.claims.SelectedExactly.{selected-exactly}
 use Rattle.table.specs.declared.Party.{Party}
 use Rattle.table.specs.declared.Party.the-variants.{Device, Host}
 use Rattle.conversation.specs.declared.State.{State}
-use Rattle.conversation.specs.Step.{may-speak, fresh, is-running, blame, of-state, of-message, step-questions, Told, refused, blamed, forwarded, Outcome, refusing, blaming, forwarding, stepping, outcome}
+use Rattle.conversation.specs.Step.{may-speak, fresh, is-running, blame, of-state, of-message, step-questions, Told, refused, blamed, forwarded, Outcome, refusing, blaming, forwarding, stepping}
 use Rattle.table.specs.Table.{speaker, is-party}
-use Rattle.conversation.specs.Conversation.{Sent, Event, event, played, conversation, said-by, is-forwarded, forwarded-ones, blamed-else, blamed-first, standing-by, Stands, nobody, Judgeable, refusal-of, Handled, Met, Reply, Kept, one-more}
+use Rattle.conversation.specs.Conversation.{Sent, Event, event, played, conversation, said-by, is-forwarded, forwarded-ones, blamed-else, blamed-first, standing-by, Stands, nobody, Judgeable, refusal-of, Handled, Met}
+use Rattle.conversation.specs.Batches.{state-after}
 use Rattle.conversation.proofs.laws.Step.{all-well, ready, target-of, Way, refuses, forwards, blames, way}
 use Rattle.table.specs.Table as T
 
@@ -163,6 +164,22 @@ heard-where rules a side = by (rules .sort a) side (eqb (rules .edition) 2)
     by T.receives Device b = refl
     by T.receives Host b = refl
 
+-- the questions after 10 and 11 are those of a message: at a choice, a side that may speak is listened to
+refusal-is : {A : Type 0} (rules : Rules A) (past : List Event) (a : A) (m : Sent)
+    → refusal-of rules past a m
+    ≡ first-no
+    ((10, nobody (blamed-first past)) ∷ (11, T.is-choice (rules .sort a))
+    ∷ of-message (rules .edition) (rules .sort a) (m .side) (m .bytes) (length (m .buffer)))
+unfolding refusal-of of-message first-no
+refusal-is rules past a m =
+    rw (heard-where rules a (m .side))
+    (ap (λ n. cond (nobody (blamed-first past)) n 10) (by (T.is-choice (rules .sort a)) (may-speak (rules .edition) (rules .sort a) (m .side)) _))
+  where
+    by : (c b : Bool) (n : ℕ) → cond c (cond (b && c) n 12) 11 ≡ cond c (cond b n 12) 11
+    by true true n = refl
+    by true false n = refl
+    by false b n = refl
+
 both-yes : (a b : Bool) (rest : List (ℕ × Bool)) → first-no ((10, a) ∷ (11, b) ∷ rest) ≡ 0 → (a ≡ true) × (b ≡ true) × (first-no rest ≡ 0)
 unfolding first-no
 both-yes true true rest h = (refl, refl, h)
@@ -171,9 +188,8 @@ both-yes false b rest h = absurd (omega (arith, h))
 
 module _ {A : Type 0} (rules : Rules A) (past : List Event) (a : A) (m : Sent) where
   none-judgeable : refusal-of rules past a m ≡ 0 → Judgeable rules past a m
-  unfolding refusal-of
   none-judgeable h =
-      let x = both-yes (nobody (blamed-first past)) (T.is-choice (rules .sort a)) _ h in
+      let x = both-yes (nobody (blamed-first past)) (T.is-choice (rules .sort a)) _ (sym (refusal-is rules past a m) ∙ h) in
       let r = ready (rules .edition) (rules .sort a) (m .side) (m .bytes) (length (m .buffer)) (x .2) in
       record {
         unblamed = nobody-none (blamed-first past) (x .0);
@@ -183,11 +199,12 @@ module _ {A : Type 0} (rules : Rules A) (past : List Event) (a : A) (m : Sent) w
       }
 
   pub judgeable-none : Judgeable rules past a m → refusal-of rules past a m ≡ 0
-  unfolding refusal-of first-no nobody
+  unfolding first-no nobody
   judgeable-none j =
       let x = both (may-speak (rules .edition) (rules .sort a) (m .side)) (T.is-choice (rules .sort a))
       (sym (heard-where rules a (m .side)) ∙ j .listened) in
-      rw (j .unblamed, x .1)
+      refusal-is rules past a m
+      ∙ rw (j .unblamed, x .1)
       (all-well (rules .edition) (rules .sort a) (m .side) (m .bytes) (length (m .buffer)) (x .0)
       (well-formed-exactly (m .bytes) .0 (j .formed)) (j .room))
 
@@ -269,8 +286,8 @@ module _ (t : Words) (sound : sound-of t ≡ true) (past : List Event) (s : Stat
   asking = first-no (step-questions t s (m .side) (m .bytes) (length (m .buffer)))
 
   asked-is : asking ≡ refusal-of rules past (s .position) m
-  unfolding step-questions of-state of-message first-no refusal-of sound-at
-  asked-is = rw (known, ap is-running (at .standing) ∙ running-by (blamed-first past))
+  unfolding step-questions of-state of-message first-no sound-at
+  asked-is = rw (known, ap is-running (at .standing) ∙ running-by (blamed-first past)) (sym (refusal-is rules past (s .position) m))
     where
       f : Facts t
       f = sound-facts t sound
@@ -466,16 +483,23 @@ module _ (t : List ℕ) (sound : sound-of t ≡ true) where
   unfolding conversation fresh forwarded-ones blamed-first leads standing-by
   each-right sent earlier e later h = in-place [] fresh (record { position = refl; standing = refl }) sent earlier e later h
 
--- ---- a program that keeps its promises answers as the conversation has it, by `step` and by `advance` alike
+-- ---- events one behind the other
 
-abbrev given : List Reply → List Outcome
-given answers = map (λ (a : Reply). outcome (a .given) (a .output)) answers
+module _ (t : Words) where
+  -- they are what their messages make of the state
+  abbrev pub Played : State → List Event → Type 0
+  Played s events = played t s (map (λ (e : Event). e .sent) events) ≡ events
 
-abbrev done-with : Words → State → List Reply → List Outcome
-done-with t s answers = map (λ (e : Event). e .done) (played t s (map (λ (a : Reply). a .sent) answers))
+  played-at : {x y : Event} {r : List Event} → x ≡ y → Played (x .done .state) r → Played (y .done .state) r
+  played-at {r = r} h p = subst (λ (x : Event). Played (x .done .state) r) h p
 
-pub played-by : (t : Words) (s : State) (answers : List Reply) → Kept t s answers → given answers ≡ done-with t s answers
-unfolding played event outcome
-played-by t s [] k = refl
-played-by t s (a ∷ r) (one-more h k) =
-    ap₂ _∷_ h (subst (λ (x : State). given r ≡ done-with t x r) (ap (λ (x : Outcome). x .state) h) (played-by t (a .given .state) r k))
+  pub played-cons : (s : State) (e : Event) (r : List Event) → event t s (e .sent) ≡ e → Played (e .done .state) r → Played s (e ∷ r)
+  unfolding played
+  played-cons s e r h p = ap₂ _∷_ h (played-at (sym h) p)
+
+  pub played-append : (s : State) (a b : List Event) → Played s a → Played (state-after s a) b → Played s (a ++ b)
+  unfolding played state-after
+  played-append s [] b p q = q
+  played-append s (e ∷ r) b p q =
+      let h = cons-eq p in
+      played-cons s e (r ++ b) (h .0) (played-append (e .done .state) r b (played-at (h .0) (h .1)) q)

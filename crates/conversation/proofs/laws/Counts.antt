@@ -26,8 +26,9 @@ use Rattle.message.proofs.laws.Selected.{carries-owner}
 use Rattle.message.proofs.claims.SelectedExactly.{selected-exactly}
 use Rattle.message.proofs.laws.Making.{branch-at-is}
 use Rattle.conversation.specs.declared.State.{State}
-use Rattle.conversation.specs.Step.{fresh}
-use Rattle.conversation.specs.Counts.{Counts, setting-of, n-at, k-at, legal-setting, counted-most, adds-up, counts-sound, fresh-counts, start-questions, starting, raised, raised-by, raised-at}
+use Rattle.conversation.specs.Step.{fresh, Told, refused, blamed, forwarded}
+use Rattle.conversation.specs.Conversation.{Sent, event}
+use Rattle.conversation.specs.Counts.{Counts, setting-of, n-at, k-at, legal-setting, counted-most, adds-up, counts-sound, fresh-counts, start-questions, starting, raised, raised-by, raised-at, counted, counted-step}
 use Rattle.conversation.specs.inner.Keeping.{Rising, Follows, sums-to}
 use Rattle.conversation.proofs.laws.Step.{zero-or}
 
@@ -155,6 +156,10 @@ module _ (z : ℕ) where
         each = λ i l n. omega (arith, fresh-n i, added-most t i (k-at (fresh-counts z)) 0 (branches-of t) (λ k m o. omega (arith, fresh-k k)));
       })
 
+pub legal : (z : ℕ) → 1 ≤ z → z ≤ 1000 → legal-setting z ≡ true
+unfolding legal-setting
+legal z low high = join (le-leb 1 z low) (le-leb z 1000 high)
+
 -- question by question
 module _ (t : Words) (z : ℕ) where
   pub starts-not : sound-of t ≡ false → starting t z ≡ record { question = 9; state = fresh; counts = fresh-counts 0 }
@@ -169,6 +174,10 @@ module _ (t : Words) (z : ℕ) where
     pub starts : legal-setting z ≡ true → starting t z ≡ record { question = 0; state = fresh; counts = fresh-counts z }
     unfolding starting start-questions first-no
     starts e = rw (s, e)
+
+  pub refused-start : (first-no (start-questions t z) ≡ 0 → ⊥) → starting t z .counts ≡ fresh-counts 0
+  unfolding starting
+  refused-start n = rw (ne-eqb (first-no (start-questions t z)) 0 n)
 
 -- with a setting of 0, as a refused start has it
 pub unstarted : (t : Words) → counts-sound t (fresh-counts 0) ≡ false
@@ -402,12 +411,40 @@ module _ (t : Words) (position : ℕ) (message : List ℕ) (c : Counts) where
   unfolding raised-at
   raised-at-is o e = ap (raised-by c position) e
 
-  pub raised-at-rising : sound-of t ≡ true → Rising t c → Rising t (raised-at t position message c)
+  -- what holds of the counts, and once any branch of the position is taken
+  pub raised-at-by : (P : Counts → Type 0) → P c → ((b : ℕ) → b < branches-of t → owner-at t b ≡ position → P (raised c position b))
+      → P (raised-at t position message c)
   unfolding raised-by
-  raised-at-rising s h = by (selected (view t) position (read message)) refl
+  raised-at-by P h k = by (selected (view t) position (read message)) refl
     where
-      by : (o : Option ℕ) → selected (view t) position (read message) ≡ o → Rising t (raised-at t position message c)
-      by none e = subst (Rising t) (sym (raised-at-is none e)) h
+      by : (o : Option ℕ) → selected (view t) position (read message) ≡ o → P (raised-at t position message c)
+      by none e = subst P (sym (raised-at-is none e)) h
       by (some b) e =
           let x = chosen-branch t position (read message) b e in
-          subst (Rising t) (sym (raised-at-is (some b) e)) (raised-rising t c s h b (x .0) position (x .1))
+          subst P (sym (raised-at-is (some b) e)) (k b (x .0) (x .1))
+
+module _ (t : Words) (sound : sound-of t ≡ true) (s : State) (message : List ℕ) (v : Told) (c : Counts) where
+  counted-by : (P : Counts → Type 0) → P c → ((b : ℕ) → b < branches-of t → owner-at t b ≡ s .position → P (raised c (s .position) b))
+      → P (counted t s message v c)
+  unfolding counted
+  counted-by P h k = by v
+    where
+      by : (v : Told) → P (counted t s message v c)
+      by (refused q) = h
+      by (blamed side r f) = h
+      by forwarded = raised-at-by t (s .position) message c P h k
+
+  pub counted-rising : Rising t c → Rising t (counted t s message v c)
+  counted-rising h = counted-by (Rising t) h (λ b l o. raised-rising t c sound h b l (s .position) o)
+
+  pub counted-sound : length c ≡ 161 → counts-sound t c ≡ true
+      → (length (counted t s message v c) ≡ 161) × (counts-sound t (counted t s message v c) ≡ true)
+  counted-sound long e =
+      counted-by (λ d. (length d ≡ 161) × (counts-sound t d ≡ true)) (long, e)
+      (λ b l o. (raised-length c (s .position) b ∙ long, raised-sound t c sound long e b l (s .position) o))
+
+-- a step whose counts are sound
+pub counted-then : (t : Words) (s : State) (c : Counts) (m : Sent) → counts-sound t c ≡ true
+    → counted-step t s c (m .side) (m .bytes) (m .buffer) ≡ (event t s m .done, counted t s (m .bytes) (event t s m .done .verdict) c)
+unfolding counted-step event
+counted-then t s c m e = rw e

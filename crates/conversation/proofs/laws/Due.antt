@@ -95,7 +95,7 @@ module _ (bytes : List ℕ) where
 -- ---- what is due is heard
 
 -- a refusal is no side's turn
-no-turn : {q : ℕ} {side : Party} → refused q ≡ of-side side → ⊥
+pub no-turn : {q : ℕ} {side : Party} → refused q ≡ of-side side → ⊥
 no-turn e = false≢true (ap is-turn e)
   where
     is-turn : Awaited → Bool

@@ -1,11 +1,10 @@
--- A batch is its single calls: they come to an end, and whatever single calls there are, the batch does what they do, and raises the counts
--- that they raise.
+-- A batch is its single calls: they come to an end, and whatever single calls there are, the batch does what they do.
 -- Assumes nothing.
 use mathlib.Core.Path.{_≡_, refl, sym, ap, ap₂, subst, _∙_}
 use mathlib.Core.Logic.{⊎-elim}
 use mathlib.Core.Bool.{Bool, true, false, not, _&&_, cond}
 use mathlib.Core.List.{List, [], _∷_, _++_, append-assoc, append-nil}
-use mathlib.Core.Option.{Option, none, some}
+use mathlib.Core.Option.{none, some}
 use Prim.Native.Nat.{ℕ, zero, suc, _+_, _≤_, _<_}
 use native.Mathlib.Nat.{pos-of-ne-zero}
 use native.Mathlib.Omega.{arith}
@@ -21,49 +20,50 @@ use Rattle.conversation.specs.declared.State.{State}
 use Rattle.conversation.specs.Step.{Told, refused, blamed, forwarded, Outcome, refusing, blaming, forwarding, stepping}
 use Rattle.conversation.specs.Due.{Awaited, of-side, awaited, first-length, due-at, due}
 use Rattle.conversation.specs.Due as Due
-use Rattle.conversation.specs.Conversation.{Sent, Event, event, is-refused, is-forwarded}
-use Rattle.conversation.specs.Batch.{Lane, used-by, written-by, taken, taking, Batch, latest, device-took, host-took, turn-of, one-turn, go-on, turns, begun}
-use Rattle.conversation.specs.Batches.{Left, output-for, left-after, HandsOut, Single, Singly, none-due, stops, goes-on, used-on, passed-from, lane-after, state-after, last-answer, summed, onto-lane, onto, left-by}
+use Rattle.conversation.specs.Conversation.{Sent, Event, event, played, is-refused, is-forwarded}
+use Rattle.conversation.specs.Counts.{Counts}
+use Rattle.conversation.specs.Batch.{Both, at-side, set-side, each-side, Left, Lane, used-by, written-by, lane-on, taking, Batch, latest, took, turn-of, one-turn, go-on, turns, begun}
+use Rattle.conversation.specs.Batches.{left-after, HandsOut, Single, Singly, none-due, stops, goes-on, used-on, passed-from, lane-after, state-after, counts-after, last-answer, summed, onto-lane, onto, left-by}
 use Rattle.conversation.specs.inner.Keeping.{is-last-forwarded}
-use Rattle.conversation.specs.Counts.{Counts, raised-at, counted, first-left, awaited-message, turn-message, count-on, counted-turns}
-use Rattle.conversation.specs.Counting.{counts-after}
 use Rattle.conversation.proofs.laws.Step.{turn-its, zero-or, Way, refuses, forwards, blames, way}
 use Rattle.conversation.proofs.laws.Due.{first-within, first-cut}
-use Rattle.conversation.proofs.laws.Batch.{takes-none, takes-one, turn-is, turn-by, on-over}
-use Rattle.conversation.proofs.laws.Onto.{goes-on-as, counts-go-on-as}
+use Rattle.conversation.proofs.laws.Conversation.{Played, played-cons}
+use Rattle.conversation.proofs.laws.Batch.{untouched, takes-none, takes-one, takes, turn-is, turn-by, on-over}
+use Rattle.conversation.proofs.laws.Both.{at-each, each-by, each-is, set-same, set-by}
+use Rattle.conversation.proofs.laws.Onto.{goes-on-as}
 use denote.Ref.{RefT}
 
 -- ---- the due message
 
--- what waits on a side
-unfoldable waiting : Party → Left → List ℕ
-waiting Device l = l .device
-waiting Host l = l .host
+abbrev waiting : Party → Both Left → List ℕ
+waiting side l = at-side side l .bytes
 
-abbrev message-of : Party → Left → List ℕ
+abbrev message-of : Party → Both Left → List ℕ
 message-of side l = take (first-length (waiting side l)) (waiting side l)
 
 -- a step with it
-abbrev the-step : Words → State → Left → Party → Event
-the-step t s l side = event t s (record { side = side; bytes = message-of side l; buffer = output-for side l })
+abbrev the-step : Words → State → Both Left → Party → Event
+the-step t s l side = event t s (record { side = side; bytes = message-of side l; buffer = at-side side l .output })
 
 -- bytes somewhere in memory
 abbrev in-memory : List ℕ → RefT (List ℕ)
 in-memory h = record { ptr = (0, 0); name = 0; now = h }
 
-module _ (t : Words) (s : State) (l : Left) where
+module _ (t : Words) (s : State) (l : Both Left) where
   hands-none : (q : ℕ) → awaited t s ≡ Due.refused q → HandsOut t s l []
   unfolding due due-at
   hands-none q a device host e f = rw a
 
   hands-out : (side : Party) → awaited t s ≡ of-side side → HandsOut t s l (message-of side l)
-  unfolding due due-at waiting
+  unfolding due due-at at-side
   hands-out Device a device host e f = rw (a, e)
   hands-out Host a device host e f = rw (a, f)
 
   handed : (side : Party) (m : List ℕ) → awaited t s ≡ of-side side → HandsOut t s l m → message-of side l ≡ m
   handed side m a h =
-      sym (hands-out side a (in-memory (l .device)) (in-memory (l .host)) refl refl) ∙ h (in-memory (l .device)) (in-memory (l .host)) refl refl
+      let device = in-memory (l .device .bytes) in
+      let host = in-memory (l .host .bytes) in
+      sym (hands-out side a device host refl refl) ∙ h device host refl refl
 
   -- a single step is the step with it
   single-is : (e : Event) → Single t s l e → e ≡ the-step t s l (e .sent .side)
@@ -94,21 +94,21 @@ module _ (t : Words) (s : State) (l : Left) where
 
 -- ---- single calls come to an end
 
-abbrev pub bytes-left : Left → ℕ
-bytes-left l = length (l .device) + length (l .host)
+abbrev pub bytes-left : Both Left → ℕ
+bytes-left l = length (l .device .bytes) + length (l .host .bytes)
 
 less-waits : (bytes : List ℕ) → (first-length bytes ≡ 0 → ⊥) → length (drop (length (take (first-length bytes) bytes)) bytes) < length bytes
 less-waits bytes n =
     let d = length-drop (length (take (first-length bytes) bytes)) bytes in
     omega (arith, d, first-within bytes, first-cut bytes, pos-of-ne-zero n)
 
-fewer : (side : Party) (l : Left) → (first-length (waiting side l) ≡ 0 → ⊥)
+fewer : (side : Party) (l : Both Left) → (first-length (waiting side l) ≡ 0 → ⊥)
     → bytes-left (left-after side (length (message-of side l)) l) < bytes-left l
-unfolding waiting left-after
-fewer Device l n = omega (arith, less-waits (l .device) n)
-fewer Host l n = omega (arith, less-waits (l .host) n)
+unfolding at-side set-side left-after
+fewer Device l n = omega (arith, less-waits (l .device .bytes) n)
+fewer Host l n = omega (arith, less-waits (l .host .bytes) n)
 
-single-fewer : (t : Words) (s : State) (l : Left) (e : Event) → Single t s l e
+single-fewer : (t : Words) (s : State) (l : Both Left) (e : Event) → Single t s l e
     → bytes-left (left-after (e .sent .side) (length (e .sent .bytes)) l) < bytes-left l
 single-fewer t s l e g =
     subst (λ m. bytes-left (left-after (e .sent .side) (length m) l) < bytes-left l)
@@ -121,10 +121,10 @@ forwarded-is (blamed side r f) h = never h refl
 forwarded-is forwarded h = refl
 
 module _ (t : Words) where
-  abbrev Listed : State → Left → Type 0
+  abbrev Listed : State → Both Left → Type 0
   Listed s l = (events : List Event) × Singly t s l events
 
-  more : (s : State) (l : Left) → ((s : State) (k : Left) → bytes-left k < bytes-left l → Listed s k) → Listed s l
+  more : (s : State) (l : Both Left) → ((s : State) (k : Both Left) → bytes-left k < bytes-left l → Listed s k) → Listed s l
   unfolding event is-forwarded
   more s l rest = by (awaited t s) refl
     where
@@ -145,7 +145,7 @@ module _ (t : Words) where
           (λ z. ([], none-due (subst (λ k. HandsOut t s l (take k (waiting side l))) z (hands-out t s l side a))))
           (zero-or (first-length (waiting side l)))
 
-  pub listed : (n : ℕ) (s : State) (l : Left) → bytes-left l < n → Listed s l
+  pub listed : (n : ℕ) (s : State) (l : Both Left) → bytes-left l < n → Listed s l
   listed zero s l h = absurd (omega (arith, h))
   listed (suc n) s l h = more s l (λ x k f. listed n x k (omega (arith, f, h)))
 
@@ -230,56 +230,48 @@ written-within side events out =
     let p = passed-from side events in
     omega (arith, length-append p (drop (length p) out))
 
-module _ (s : State) (l : Left) (e : Event) where
+module _ (t : Words) (s : State) (c : Counts) (l : Both Left) (e : Event) where
   abbrev with-one : Batch
-  with-one = summed s l (e ∷ [])
+  with-one = summed t s c l (e ∷ [])
 
-  one-then : (r : List Event) → onto with-one (summed (e .done .state) (left-by with-one l) r) ≡ summed s l (e ∷ r)
-  unfolding onto summed left-by state-after last-answer latest
+  one-then : (r : List Event) → onto with-one (summed t (e .done .state) (with-one .counts) (left-by with-one l) r) ≡ summed t s c l (e ∷ r)
+  unfolding onto summed left-by state-after counts-after last-answer latest each-side at-side
   one-then r =
-      ap₂ (batch (latest (last-answer r) (some (e .done .verdict)))) (lanes-join Device e r (l .to-host)) (lanes-join Host e r (l .to-device))
-      ∙ ap (λ x. batch x (lane-after Device (e ∷ r) (l .to-host)) (lane-after Host (e ∷ r) (l .to-device))) (last-later e r)
-    where
-      batch : Option Told → Lane → Lane → Batch
-      batch x d h = record { state = state-after (e .done .state) r; device = d; host = h; last = x }
+      rw (lanes-join Device e r (l .device .output), lanes-join Host e r (l .host .output), last-later e r)
+
+  one-within : (side : Party) → at-side side (with-one .lanes) .written ≤ length (at-side side (with-one .lanes) .output)
+  unfolding summed
+  one-within =
+      each-by (λ side a. a .written ≤ length (a .output)) (λ side. lane-after side (e ∷ []) (at-side side l .output))
+      (λ side. written-within side (e ∷ []) (at-side side l .output))
 
   -- what it leaves, of a forwarded message
-  one-leaves : (side : Party) → e .sent .side ≡ side → e .done .verdict ≡ forwarded
-      → left-by with-one l ≡ left-after side (length (e .sent .bytes)) l
-  unfolding summed lane-after left-by left-after is-party
-  one-leaves Device a f =
-      let own : is-party Device (some (e .sent .side)) ≡ true = rw a in
-      let other : is-party Host (some (e .sent .side)) ≡ false = rw a in
-      rw (
-        own-used Device e own f,
-        others-used Host e other,
-        room-after (l .to-device) (others-passed Host e other),
-        room-after (l .to-host) (own-passed Device e own f),
-      )
-  one-leaves Host a f =
-      let own : is-party Host (some (e .sent .side)) ≡ true = rw a in
-      let other : is-party Device (some (e .sent .side)) ≡ false = rw a in
-      rw (
-        others-used Device e other,
-        own-used Host e own f,
-        room-after (l .to-device) (own-passed Host e own f),
-        room-after (l .to-host) (others-passed Device e other),
-      )
+  one-leaves : e .done .verdict ≡ forwarded → left-by with-one l ≡ left-after (e .sent .side) (length (e .sent .bytes)) l
+  unfolding summed lane-after left-by left-after each-side at-side
+  one-leaves f =
+      each-is (set-by (λ p a. leaves p ≡ a) (e .sent .side) _ l
+      (rw (own-used (e .sent .side) e own f, room-after (at-side (e .sent .side) l .output) (own-passed (e .sent .side) e own f)))
+      (λ p o. rw (others-used p e o, room-after (at-side p l .output) (others-passed p e o))))
+    where
+      own : is-party (e .sent .side) (some (e .sent .side)) ≡ true
+      own = turn-its (e .sent .side)
+
+      leaves : Party → Left
+      leaves p =
+          let a = lane-after p (e ∷ []) (at-side p l .output) in
+          record { bytes = drop (a .used) (at-side p l .bytes); output = drop (a .written) (a .output) }
 
 -- ---- a turn is a single step
 
-module _ (t : Words) (s : State) (side : Party) (bytes out : List ℕ) where
-  abbrev untouched : Lane
-  untouched = record { used = 0; written = 0; output = out }
-
+module _ (t : Words) (s : State) (c : Counts) (side : Party) (bytes out : List ℕ) where
   abbrev message : List ℕ
   message = take (first-length bytes) bytes
 
-  -- the counts of the step, and of its event
+  -- the lane of the step, and of its event
   taken-lane : (x : Outcome) → Way t s side message out x
-      → taken (length message) x untouched .lane
+      → lane-on (x .verdict) (length message) (x .output) (untouched out)
       ≡ part (cond (not (is-refused (x .verdict))) (length message) 0 + 0) (cond (is-forwarded (x .verdict)) (message ++ []) []) out
-  unfolding taken refusing blaming forwarding used-by written-by is-refused is-forwarded opening
+  unfolding lane-on refusing blaming forwarding used-by written-by is-refused is-forwarded opening
   taken-lane x (refuses q e n) = refl
   taken-lane x (blames e r f h) = let y : 0 + length message ≡ length message + 0 = omega arith in rw y
   taken-lane x (forwards e j h) =
@@ -291,43 +283,46 @@ module _ (t : Words) (s : State) (side : Party) (bytes out : List ℕ) where
   done-here = event t s (record { side = side; bytes = message; buffer = out })
 
   taking-one : (first-length bytes ≡ 0 → ⊥)
-      → taking t s side bytes untouched
+      → taking t s c side bytes (untouched out)
       ≡ record {
         answer = some (done-here .done .verdict);
         state = done-here .done .state;
+        counts = counts-after t c (done-here ∷ []);
         lane = lane-after side (done-here ∷ []) out;
       }
-  unfolding event taken lane-after used-on passed-from
+  unfolding event lane-after used-on passed-from counts-after
   taking-one n =
-      takes-one t s side bytes untouched n
+      takes-one t s c side bytes (untouched out) n
       ∙ rw (turn-its side, sym (taken-lane (stepping t s side message out) (way t s side message out)), first-cut bytes)
 
-module _ (t : Words) (s : State) (l : Left) where
+module _ (t : Words) (s : State) (c : Counts) (l : Both Left) where
   abbrev start : Batch
-  start = begun s (l .to-device) (l .to-host) none
+  start = begun s c l none
 
   turn-one : (side : Party) → awaited t s ≡ of-side side → (first-length (waiting side l) ≡ 0 → ⊥)
-      → one-turn t (l .device) (l .host) start ≡ (some (the-step t s l side .done .verdict), with-one s l (the-step t s l side))
-  unfolding begun turn-of device-took host-took summed lane-after used-on passed-from is-party waiting output-for event state-after
-      last-answer latest
+      → one-turn t l start ≡ (some (the-step t s l side .done .verdict), with-one t s c l (the-step t s l side))
+  unfolding begun turn-of took summed lane-after used-on passed-from is-party event state-after last-answer latest at-side set-side each-side
   turn-one Device a n =
-      turn-is t (l .device) (l .host) start (of-side Device) a
-      ∙ ap (λ x. device-took x start) (taking-one t s Device (l .device) (l .to-host) n)
+      turn-is t l start (of-side Device) a ∙ ap (λ x. took Device x start) (taking-one t s c Device (l .device .bytes) (l .device .output) n)
   turn-one Host a n =
-      turn-is t (l .device) (l .host) start (of-side Host) a
-      ∙ ap (λ x. host-took x start) (taking-one t s Host (l .host) (l .to-device) n)
+      turn-is t l start (of-side Host) a ∙ ap (λ x. took Host x start) (taking-one t s c Host (l .host .bytes) (l .host .output) n)
 
-  turn-single : (e : Event) → Single t s l e → one-turn t (l .device) (l .host) start ≡ (some (e .done .verdict), with-one s l e)
+  turn-single : (e : Event) → Single t s l e → one-turn t l start ≡ (some (e .done .verdict), with-one t s c l e)
   turn-single e g =
-      subst (λ (e : Event). one-turn t (l .device) (l .host) start ≡ (some (e .done .verdict), with-one s l e))
+      subst (λ (e : Event). one-turn t l start ≡ (some (e .done .verdict), with-one t s c l e))
       (sym (single-is t s l e g)) (turn-one (e .sent .side) (g .turn) (single-some t s l e g))
 
-  turn-none : HandsOut t s l [] → one-turn t (l .device) (l .host) start ≡ (none, start)
-  unfolding begun device-took host-took waiting latest
+  turn-none : HandsOut t s l [] → one-turn t l start ≡ (none, start)
+  unfolding begun took latest
   turn-none h =
-      turn-by t (l .device) (l .host) (λ r. r ≡ (none, start)) start (λ q a. refl)
-      (λ a. ap (λ x. device-took x start) (takes-none t s Device (l .device) (start .device) (none-first t s l Device a h)))
-      (λ a. ap (λ x. host-took x start) (takes-none t s Host (l .host) (start .host) (none-first t s l Host a h)))
+      turn-by t l (λ r. r ≡ (none, start)) start (λ q a. refl)
+      (λ side a. rw (nothing-taken side a, set-same side (start .lanes)))
+    where
+      nothing-taken : (side : Party) → awaited t s ≡ of-side side
+          → takes t l start side ≡ record { answer = none; state = s; counts = c; lane = at-side side (start .lanes) }
+      nothing-taken side a =
+          takes-none t s c side (waiting side l) (at-side side (start .lanes))
+          (rw (at-each (λ p. untouched (at-side p l .output)) side) (none-first t s l side a h))
 
 -- ---- a batch is single steps
 
@@ -338,100 +333,45 @@ not-on (blamed side r f) n = refl
 not-on forwarded n = absurd (n refl)
 
 module _ (t : Words) where
-  abbrev after : ℕ → State → Left → Batch
-  after n s l = turns n t (l .device) (l .host) (start t s l)
+  abbrev after : ℕ → State → Counts → Both Left → Batch
+  after n s c l = turns n t l (start t s c l)
 
-  module _ (n : ℕ) (s : State) (l : Left) (e : Event) (g : Single t s l e) where
-    abbrev on : Batch → Batch
-    on b = turns n t (l .device) (l .host) b
+  module _ (n : ℕ) (s : State) (c : Counts) (l : Both Left) (e : Event) (g : Single t s l e) where
+    abbrev one : Batch
+    one = with-one t s c l e
 
-    stopped : (e .done .verdict ≡ forwarded → ⊥) → after (suc n) s l ≡ with-one s l e
+    stopped : (e .done .verdict ≡ forwarded → ⊥) → after (suc n) s c l ≡ one
     unfolding turns
     stopped x =
-        ap (go-on on) (turn-single t s l e g) ∙ on-over on (some (e .done .verdict), with-one s l e) (not-on (e .done .verdict) x)
+        ap (go-on (turns n t l)) (turn-single t s c l e g) ∙ on-over (turns n t l) (some (e .done .verdict), one) (not-on (e .done .verdict) x)
 
-    went-on : e .done .verdict ≡ forwarded
-        → after (suc n) s l
-        ≡ onto (with-one s l e) (after n (e .done .state) (left-after (e .sent .side) (length (e .sent .bytes)) l))
-    unfolding turns go-on summed left-by state-after
+    went-on : e .done .verdict ≡ forwarded → after (suc n) s c l ≡ onto one (after n (e .done .state) (one .counts) (left-by one l))
+    unfolding turns go-on summed state-after
     went-on f =
-        ap (go-on on) (turn-single t s l e g)
-        ∙ ap (λ v. go-on on (some v, with-one s l e)) f
-        ∙ goes-on-as t (l .device) (l .host) (with-one s l e) (written-within Device (e ∷ []) (l .to-host))
-        (written-within Host (e ∷ []) (l .to-device)) n
-        ∙ ap (λ k. onto (with-one s l e) (after n (e .done .state) k)) (one-leaves s l e (e .sent .side) refl f)
+        ap (go-on (turns n t l)) (turn-single t s c l e g)
+        ∙ ap (λ v. go-on (turns n t l) (some v, one)) f
+        ∙ goes-on-as t l one (one-within t s c l e) n
 
-  pub turns-singly : (n : ℕ) (s : State) (l : Left) → bytes-left l < n → (events : List Event) → Singly t s l events
-      → after n s l ≡ summed s l events
-  unfolding turns go-on begun summed lane-after used-on passed-from state-after last-answer
-  turns-singly zero s l h events x = absurd (omega (arith, h))
-  turns-singly (suc n) s l h events (none-due d) = ap (go-on (turns n t (l .device) (l .host))) (turn-none t s l d)
-  turns-singly (suc n) s l h events (stops {e = e} g x) = stopped n s l e g x
-  turns-singly (suc n) s l h events (goes-on {e = e} {r = r} g f x) =
-      let k = left-after (e .sent .side) (length (e .sent .bytes)) l in
-      went-on n s l e g f
-      ∙ ap (onto (with-one s l e)) (turns-singly n (e .done .state) k (omega (arith, h, single-fewer t s l e g)) r x)
-      ∙ ap (λ k. onto (with-one s l e) (summed (e .done .state) k r)) (sym (one-leaves s l e (e .sent .side) refl f))
-      ∙ one-then s l e r
+  pub turns-singly : (n : ℕ) (s : State) (c : Counts) (l : Both Left) → bytes-left l < n → (events : List Event) → Singly t s l events
+      → after n s c l ≡ summed t s c l events
+  unfolding turns go-on begun summed lane-after used-on passed-from state-after counts-after last-answer
+  turns-singly zero s c l h events x = absurd (omega (arith, h))
+  turns-singly (suc n) s c l h events (none-due d) = ap (go-on (turns n t l)) (turn-none t s c l d)
+  turns-singly (suc n) s c l h events (stops {e = e} g x) = stopped n s c l e g x
+  turns-singly (suc n) s c l h events (goes-on {e = e} {r = r} g f x) =
+      let one = with-one t s c l e in
+      let fewer-left = subst (λ k. bytes-left k < bytes-left l) (sym (one-leaves t s c l e f)) (single-fewer t s l e g) in
+      went-on n s c l e g f
+      ∙ ap (onto one)
+      (turns-singly n (e .done .state) (one .counts) (left-by one l) (omega (arith, h, fewer-left)) r
+      (subst (λ k. Singly t (e .done .state) k r) (sym (one-leaves t s c l e f)) x))
+      ∙ one-then t s c l e r
 
--- ---- and their counts
+-- ---- and played
 
-module _ (t : Words) where
-  first-message : (s : State) (l : Left) (side : Party) → awaited t s ≡ of-side side
-      → turn-message t (l .device) (l .host) (start t s l) ≡ message-of side l
-  unfolding turn-message awaited-message first-left begun waiting
-  first-message s l Device a = ap (λ o. awaited-message o (l .device) (l .host) (start t s l)) a
-  first-message s l Host a = ap (λ o. awaited-message o (l .device) (l .host) (start t s l)) a
-
-  abbrev counts-in : ℕ → State → Left → Counts → Counts
-  counts-in n s l c = counted-turns n t (l .device) (l .host) (start t s l) c
-
-  -- after a turn
-  abbrev count-next : ℕ → State → Left → Counts → Option Told × Batch → Counts
-  count-next n s l c r =
-      count-on (counted-turns n t (l .device) (l .host)) r
-      (raised-at t (s .position) (turn-message t (l .device) (l .host) (start t s l)) c) c
-
-  module _ (n : ℕ) (s : State) (l : Left) (e : Event) (g : Single t s l e) (c : Counts) where
-    raised-there : raised-at t (s .position) (turn-message t (l .device) (l .host) (start t s l)) c
-        ≡ counted t (e .met) (e .sent .bytes) forwarded c
-    unfolding counted event
-    raised-there =
-        ap₂ (λ p m. raised-at t p m c) (sym (ap (λ x. x .met .position) (g .stepped)))
-        (first-message s l (e .sent .side) (g .turn) ∙ handed t s l (e .sent .side) (e .sent .bytes) (g .turn) (g .due))
-
-    counts-stopped : (e .done .verdict ≡ forwarded → ⊥) → counts-in (suc n) s l c ≡ counts-after t c (e ∷ [])
-    unfolding counted-turns count-on begun counts-after counted
-    counts-stopped x = ap (count-next n s l c) (turn-single t s l e g) ∙ by (e .done .verdict) x
-      where
-        by : (v : Told) → (v ≡ forwarded → ⊥) → count-next n s l c (some v, with-one s l e) ≡ counted t (e .met) (e .sent .bytes) v c
-        by (refused q) x = refl
-        by (blamed side r f) x = refl
-        by forwarded x = absurd (x refl)
-
-    counts-went-on : e .done .verdict ≡ forwarded
-        → counts-in (suc n) s l c
-        ≡ counts-in n (e .done .state) (left-after (e .sent .side) (length (e .sent .bytes)) l) (counted t (e .met) (e .sent .bytes) (e .done .verdict) c)
-    unfolding counted-turns count-on begun summed left-by state-after
-    counts-went-on f =
-        ap (count-next n s l c) (turn-single t s l e g) ∙ ap (λ v. count-next n s l c (some v, with-one s l e)) f
-        ∙ counts-go-on-as t (l .device) (l .host) (with-one s l e) (written-within Device (e ∷ []) (l .to-host))
-        (written-within Host (e ∷ []) (l .to-device)) n _
-        ∙ ap₂ (λ k d. counts-in n (e .done .state) k d) (one-leaves s l e (e .sent .side) refl f)
-        (raised-there ∙ ap (λ v. counted t (e .met) (e .sent .bytes) v c) (sym f))
-
-  turns-counted : (n : ℕ) (s : State) (l : Left) (c : Counts) → bytes-left l < n → (events : List Event) → Singly t s l events
-      → counts-in n s l c ≡ counts-after t c events
-  unfolding counted-turns count-on begun counts-after
-  turns-counted zero s l c h events x = absurd (omega (arith, h))
-  turns-counted (suc n) s l c h events (none-due d) = ap (count-next n s l c) (turn-none t s l d)
-  turns-counted (suc n) s l c h events (stops {e = e} g x) = counts-stopped n s l e g c x
-  turns-counted (suc n) s l c h events (goes-on {e = e} {r = r} g f x) =
-      counts-went-on n s l e g c f
-      ∙ turns-counted n (e .done .state) (left-after (e .sent .side) (length (e .sent .bytes)) l)
-      (counted t (e .met) (e .sent .bytes) (e .done .verdict) c) (omega (arith, h, single-fewer t s l e g)) r x
-
-pub batch-counted : (t : Words) (s : State) (l : Left) (c : Counts) (events : List Event) → Singly t s l events
-    → counted-turns (suc (length (l .device) + length (l .host))) t (l .device) (l .host) (begun s (l .to-device) (l .to-host) none) c
-    ≡ counts-after t c events
-batch-counted t s l c events x = turns-counted t (suc (bytes-left l)) s l c (omega arith) events x
+-- the events are what their messages make of the state
+pub singly-played : (t : Words) {s : State} {l : Both Left} {events : List Event} → Singly t s l events → Played t s events
+unfolding played
+singly-played t (none-due h) = refl
+singly-played t (stops {s = s} {e = e} g n) = played-cons t s e [] (sym (g .stepped)) refl
+singly-played t (goes-on {s = s} {e = e} {r = r} g f x) = played-cons t s e r (sym (g .stepped)) (singly-played t x)

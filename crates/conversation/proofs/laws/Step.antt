@@ -22,6 +22,7 @@ use Rattle.table.specs.declared.Party.{Party}
 use Rattle.table.specs.declared.Party.the-variants.{Device, Host}
 use Rattle.conversation.specs.declared.State.{State}
 use Rattle.conversation.specs.Step.{may-speak, is-running, of-state, of-message, step-questions, Outcome, refusing, blaming, forwarding, judging, stepping}
+use Rattle.conversation.specs.Counts.{Counts, counts-sound}
 use Rattle.conversation.specs.Batch.{batch-questions}
 use Rattle.table.specs.Lists.{first-no}
 
@@ -53,60 +54,63 @@ two-yes p q false b e = absurd (omega (arith, e))
 abbrev two : Bool → Bool → ℕ → ℕ
 two a b n = cond a (cond b n 10) 9
 
-module _ (t : Words) (s : State) where
-  pub unsound : sound-of t ≡ false → first-no (batch-questions t s) ≡ 9
+module _ (t : Words) (s : State) (sound : sound-of t ≡ true) (l : s .position < states-of t) where
+  here : (sound-of t && ltb (s .position) (states-of t)) ≡ true
+  here = join sound (lt-ltb (s .position) (states-of t) l)
+
+module _ (t : Words) (s : State) (c : Counts) where
+  pub unsound : sound-of t ≡ false → first-no (batch-questions t s c) ≡ 9
   unfolding first-no batch-questions sound-at
   unsound h = rw h
 
-  pub no-state : states-of t ≤ s .position → first-no (batch-questions t s) ≡ 9
+  pub no-state : states-of t ≤ s .position → first-no (batch-questions t s c) ≡ 9
   unfolding first-no batch-questions sound-at
   no-state h = rw (right-fails (sound-of t) (le-ltb (s .position) (states-of t) h))
 
-  module _ (sound : sound-of t ≡ true) (l : s .position < states-of t) where
-    here : (sound-of t && ltb (s .position) (states-of t)) ≡ true
-    here = join sound (lt-ltb (s .position) (states-of t) l)
+  pub bad-counts : counts-sound t c ≡ false → first-no (batch-questions t s c) ≡ 9
+  unfolding first-no batch-questions
+  bad-counts h = rw (right-fails (sound-at t (s .position)) h)
 
-    pub not-running : is-running (s .standing) ≡ false → first-no (batch-questions t s) ≡ 10
+  module _ (sound : sound-of t ≡ true) (l : s .position < states-of t) (counts : counts-sound t c ≡ true) where
+    pub not-running : is-running (s .standing) ≡ false → first-no (batch-questions t s c) ≡ 10
     unfolding first-no batch-questions sound-at
-    not-running h = rw (here, h)
+    not-running h = rw (here t s sound l, counts, h)
 
-    pub none-stops : is-running (s .standing) ≡ true → first-no (batch-questions t s) ≡ 0
+    pub none-stops : is-running (s .standing) ≡ true → first-no (batch-questions t s c) ≡ 0
     unfolding first-no batch-questions sound-at
-    none-stops h = rw (here, h)
+    none-stops h = rw (here t s sound l, counts, h)
 
   -- where they get a yes
   pub record Entered : Type 0 where
     pub sound : sound-of t ≡ true
     pub below : s .position < states-of t
+    pub counts : counts-sound t c ≡ true
     pub running : is-running (s .standing) ≡ true
 
-  pub entered : first-no (batch-questions t s) ≡ 0 → Entered
+  pub entered : first-no (batch-questions t s c) ≡ 0 → Entered
   unfolding batch-questions sound-at
   entered h =
-      let e = two-yes 8 9 (sound-of t && ltb (s .position) (states-of t)) (is-running (s .standing)) h in
-      let b = both (sound-of t) (ltb (s .position) (states-of t)) (e .0) in
-      record { sound = b .0; below = ltb-true (s .position) (states-of t) (b .1); running = e .1 }
+      let e = two-yes 8 9 ((sound-of t && ltb (s .position) (states-of t)) && counts-sound t c) (is-running (s .standing)) h in
+      let k = both (sound-of t && ltb (s .position) (states-of t)) (counts-sound t c) (e .0) in
+      let b = both (sound-of t) (ltb (s .position) (states-of t)) (k .0) in
+      record { sound = b .0; below = ltb-true (s .position) (states-of t) (b .1); counts = k .1; running = e .1 }
 
-  -- a no of these is one of 9, 10 and 11, too
-  pub not-entered : (q : ℕ) → q ≡ first-no (batch-questions t s) → (q ≡ 0 → ⊥) → first-no (of-state t s) ≡ q
+  -- a no of these is one of 9, on the counts, too, 10 and 11
+  pub not-entered : (q : ℕ) → q ≡ first-no (batch-questions t s c) → (q ≡ 0 → ⊥) → cond (counts-sound t c) (first-no (of-state t s)) 9 ≡ q
   unfolding of-state batch-questions first-no
   not-entered q e n =
-      by (sound-at t (s .position)) (is-running (s .standing)) (cond (is-choice (sort (view t) (s .position))) 0 11) (λ z. n (e ∙ z))
+      by (sound-at t (s .position)) (counts-sound t c) (is-running (s .standing)) (cond (is-choice (sort (view t) (s .position))) 0 11)
+      (λ z. n (e ∙ z))
       ∙ sym e
     where
-      by : (a b : Bool) (n : ℕ) → (two a b 0 ≡ 0 → ⊥) → two a b n ≡ two a b 0
-      by true true n h = absurd (h refl)
-      by true false n h = refl
-      by false b n h = refl
+      by : (a k b : Bool) (n : ℕ) → (two (a && k) b 0 ≡ 0 → ⊥) → cond k (two a b n) 9 ≡ two (a && k) b 0
+      by true true true n h = absurd (h refl)
+      by true true false n h = refl
+      by true false b n h = refl
+      by false true b n h = refl
+      by false false b n h = refl
 
 -- ---- 9 on the counts, too: before whatever is asked
-
-pub nine-anyway : (b : Bool) {n : ℕ} → n ≡ 9 → cond b n 9 ≡ 9
-nine-anyway true e = e
-nine-anyway false e = refl
-
-pub nine-first : {b : Bool} (n : ℕ) → b ≡ false → cond b n 9 ≡ 9
-nine-first n e = ap (λ b. cond b n 9) e
 
 pub nine-passed : {b : Bool} (n : ℕ) → b ≡ true → cond b n 9 ≡ n
 nine-passed n e = ap (λ b. cond b n 9) e

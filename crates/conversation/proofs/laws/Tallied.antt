@@ -17,11 +17,13 @@ use Rattle.table.proofs.laws.Lists.{decided}
 use Rattle.table.proofs.laws.View.{Facts, sound-facts}
 use Rattle.message.specs.Message.{read}
 use Rattle.message.specs.Judge.{selected}
+use Rattle.conversation.specs.declared.Started.{Started}
 use Rattle.conversation.specs.Step.{Told, refused, blamed, forwarded}
 use Rattle.conversation.specs.Conversation.{Event, is-forwarded}
-use Rattle.conversation.specs.Counts.{Counts, setting-of, n-at, k-at, counted-most, legal-setting, counts-sound, fresh-counts, raised, raised-by, raised-at, counted}
-use Rattle.conversation.specs.Counting.{picked, picks, times, Tallied, counts-after}
-use Rattle.conversation.proofs.laws.Counts.{fresh-n, fresh-k, fresh-length, fresh-sound, raised-full, raised-length, raised-setting, raised-n-other, raised-k-other, raised-n, raised-k, raised-sound, chosen-branch}
+use Rattle.conversation.specs.Counts.{Counts, setting-of, n-at, k-at, counted-most, legal-setting, counts-sound, fresh-counts, starting, raised, raised-by, raised-at, counted}
+use Rattle.conversation.specs.Batches.{counts-after}
+use Rattle.conversation.specs.Counting.{picked, picks, times, Tallied}
+use Rattle.conversation.proofs.laws.Counts.{fresh-n, fresh-k, fresh-length, fresh-sound, raised-full, raised-length, raised-setting, raised-n-other, raised-k-other, raised-n, raised-k, raised-sound, starts, chosen-branch, counted-sound}
 
 -- ---- the first m of a list
 
@@ -257,3 +259,33 @@ module _ (t : Words) (sound : sound-of t ≡ true) where
   tallied z legal events =
       let k = kept-after [] (fresh-counts z) events (kept-fresh z legal) in
       record { sound = k .right; setting = k .setting; selected-times = k .n-is; taken-times = k .k-is }
+
+-- a conversation that was started
+pub tallied-then : (t : Words) (z : ℕ) → sound-of t ≡ true → legal-setting z ≡ true → (events : List Event)
+    → Tallied t z events (counts-after t (starting t z .counts) events)
+tallied-then t z sound legal events =
+    subst (λ (r : Started). Tallied t z events (counts-after t (r .counts) events)) (sym (starts t z sound legal)) (tallied t sound z legal events)
+
+-- ---- the counts after events
+
+module _ (t : Words) where
+  pub after-append : (c : Counts) (a b : List Event) → counts-after t c (a ++ b) ≡ counts-after t (counts-after t c a) b
+  unfolding counts-after
+  after-append c [] b = refl
+  after-append c (e ∷ r) b = after-append (counted t (e .met) (e .sent .bytes) (e .done .verdict) c) r b
+
+  -- they stay sound, whatever comes
+  abbrev pub Lasting : Counts → Type 0
+  Lasting c = (events : List Event) → counts-sound t (counts-after t c events) ≡ true
+
+  pub lasting-now : (c : Counts) → Lasting c → counts-sound t c ≡ true
+  unfolding counts-after
+  lasting-now c h = h []
+
+  -- and so they do if they are as many as the program has
+  pub lasting : sound-of t ≡ true → (c : Counts) → length c ≡ 161 → counts-sound t c ≡ true → Lasting c
+  unfolding counts-after
+  lasting sound c long h [] = h
+  lasting sound c long h (e ∷ r) =
+      let x = counted-sound t sound (e .met) (e .sent .bytes) (e .done .verdict) c long h in
+      lasting sound (counted t (e .met) (e .sent .bytes) (e .done .verdict) c) (x .0) (x .1) r

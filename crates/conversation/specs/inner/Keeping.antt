@@ -14,7 +14,7 @@ use Rattle.conversation.specs.declared.State.{State}
 use Rattle.conversation.specs.Step.{Told}
 use Rattle.conversation.specs.Due.{of-side, awaited}
 use Rattle.conversation.specs.Conversation.{is-forwarded}
-use Rattle.conversation.specs.Batch.{Batch}
+use Rattle.conversation.specs.Batch.{Both, at-side, Left, Batch}
 use Rattle.conversation.specs.Counts.{n-at, k-at, counted-most}
 use Rattle.conversation.specs.Batch as B
 
@@ -28,11 +28,10 @@ pub record LaneIn (bytes : List ℕ) (l : B.Lane) : Type 0 where
   pub used : l .used ≤ length bytes
   pub written : l .written ≤ length (l .output)
 
--- 9 gets a yes, and the counts are within
-pub record Within (t : Words) (device host : List ℕ) (b : Batch) : Type 0 where
+-- table and position are sound, and on either side the counts are within
+pub record Within (t : Words) (l : Both Left) (b : Batch) : Type 0 where
   pub sound : sound-at t (b .state .position) ≡ true
-  pub from-device : LaneIn device (b .device)
-  pub from-host : LaneIn host (b .host)
+  pub inside : (side : Party) → LaneIn (at-side side l .bytes) (at-side side (b .lanes))
 
 -- a message was due, and was forwarded
 unfoldable pub is-last-forwarded : Option Told → Bool
