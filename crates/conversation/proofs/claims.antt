@@ -12,3 +12,4 @@ pub mod PicksAll
 pub mod SharesUnseen
 pub mod StopsAtText
 pub mod VerdictOnce
+pub mod WarningExactly

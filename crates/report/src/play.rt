@@ -8,7 +8,7 @@ ghost use Rattle.table.specs.View.{view, sound-of};
 ghost use Rattle.message.specs.Message.{read, well-formed};
 ghost use Rattle.message.specs.Judge.{allows};
 ghost use Rattle.message.specs.Make.{exists, high-of};
-ghost use Rattle.report.specs.inner.Playing.{heard-of, pair-of, settled, is-device, high-in, move-at, move-of, InTurn, MoveSaid, Speaking, MoveSpoken, Plays, Ready, ListShows, Ended};
+ghost use Rattle.report.specs.inner.Playing.{heard-of, pair-of, settled, is-device, high-in, move-at, move-of, HasTurn, MoveSaid, Speaking, MoveSpoken, Plays, Ready, ListShows, Ended};
 use crate::write;
 use conversation::Standing;
 use conversation::State;
@@ -46,7 +46,7 @@ pub struct Said {
 
 // Whether a state allows a message, where it is that side's turn. Nothing is counted before it.
 fn hear(t: &Table, position: u8, side: Party, message: &[u8]) -> Heard
-    requires { ⌜ InTurn (now t) position side × (well-formed (now message) ≡ true) × (length (now message) ≤ 285) ⌝ }
+    requires { ⌜ HasTurn (now t) position side × (well-formed (now message) ≡ true) × (length (now message) ≤ 285) ⌝ }
     ensures { λ r. ⌜ heard-of r ≡ allows (view (now (t .entry))) position (read (now (message .entry))) ⌝ }
 {
     let mut out = [0u8; 285];
@@ -104,7 +104,7 @@ fn settle(i: u8, j: u8, side: Party, own: Heard, other: Heard) -> Pair
 
 // A message at device state i and protocol position j.
 fn meet(d: &Table, p: &Table, i: u8, j: u8, side: Party, message: &[u8]) -> Pair
-    requires { ⌜ InTurn (now d) i side × InTurn (now p) j side × (well-formed (now message) ≡ true) × (length (now message) ≤ 285) ⌝ }
+    requires { ⌜ HasTurn (now d) i side × HasTurn (now p) j side × (well-formed (now message) ≡ true) × (length (now message) ≤ 285) ⌝ }
     ensures { λ r. ⌜ pair-of r ≡ settled i j side (allows (view (now (d .entry))) i (read (now (message .entry))))
         (allows (view (now (p .entry))) j (read (now (message .entry)))) ⌝ }
 {

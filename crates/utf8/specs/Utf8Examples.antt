@@ -11,7 +11,7 @@ use Rattle.utf8.specs.Scalars.{encode-all}
 abbrev pub Says : List ℕ → List ℕ → Type 0
 Says points bytes = (encode-all points ≡ bytes) × (is-utf8 bytes ≡ true)
 
-pub record Examples : Type 0 where
+pub record Utf8Examples : Type 0 where
   -- `A`, not identical to, capital alpha, a dot
   pub not-identical : Says (0x0041 ∷ 0x2262 ∷ 0x0391 ∷ 0x002E ∷ []) (0x41 ∷ 0xE2 ∷ 0x89 ∷ 0xA2 ∷ 0xCE ∷ 0x91 ∷ 0x2E ∷ [])
   -- Korean: the language

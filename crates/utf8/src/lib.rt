@@ -4,7 +4,7 @@ ghost use mathlib.Core.Bool.{true};
 ghost use Prim.Native.Nat.{_+_, _≤_, _<_};
 ghost use lib.ListN.{length, getD};
 ghost use Rattle.utf8.specs.Utf8.{is-utf8, within, _to_};
-ghost use Rattle.utf8.specs.inner.Characters.{is-ascii, Ascii, AsciiTo, Width, size, second, low-first};
+ghost use Rattle.utf8.specs.inner.Characters.{is-ascii, Ascii, AsciiTo, Width, char-size, second, low-first};
 
 // Whether the bytes are well-formed UTF-8: a word at a time behind an ASCII byte, else one character after another.
 pub fn is_utf8(bytes: &[u8]) -> bool
@@ -131,7 +131,7 @@ fn width(bytes: &[u8], at: usize) -> usize
 
 // The same behind a lead that announces n bytes, at least two. Each call names its n, so the compiler makes a function for each.
 fn longer(bytes: &[u8], at: usize, n: usize) -> usize
-    requires { ⌜ (at < length (now bytes)) × (size (getD (now bytes) at 0) ≡ n) × (2 ≤ n) ⌝ }
+    requires { ⌜ (at < length (now bytes)) × (char-size (getD (now bytes) at 0) ≡ n) × (2 ≤ n) ⌝ }
     ensures { λ r. ⌜ Width (now (bytes .entry)) at r ⌝ }
 {
     if bytes.len() - at < n {

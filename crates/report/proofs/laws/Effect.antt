@@ -25,7 +25,7 @@ use Rattle.table.specs.declared.Party.{Party}
 use Rattle.table.specs.declared.Party.the-variants.{Device, Host}
 use Rattle.machine.specs.Machine.{Move, from-device, from-host, by-side, effect}
 use Rattle.machine.specs.Fit.{field-named, spoken}
-use Rattle.report.specs.inner.Playing.{InTurn, settled, is-device, kept, blames, move-at, MoveSaid, Speaking, MoveSpoken, Ready}
+use Rattle.report.specs.inner.Playing.{HasTurn, settled, is-device, kept, blames, move-at, MoveSaid, Speaking, MoveSpoken, Ready}
 use Rattle.report.specs.declared.play.Said.{Said}
 
 clash : {X : Type 0} → _≡_ {A = ℕ} 0 1 → X
@@ -167,7 +167,7 @@ module _ {d p : Words} {i k : ℕ} {h : Option ℕ} (r : Speaking d p i k h) whe
 
 -- then it is that side's turn at both states
 pub both-turn : {d p : Words} {i j k : ℕ} {h : Option ℕ} → Ready d p i j k h → {side : Party} → speaker (sort (view d) i) ≡ some side
-    → InTurn d i side × InTurn p j side
+    → HasTurn d i side × HasTurn p j side
 both-turn {d} {p} {i} {j} r e = (
   record { sound = r .speaking .d-sound; inside = r .speaking .i-inside; turn = e },
   record {

@@ -25,7 +25,7 @@ use Rattle.conversation.proofs.laws.Step.{turn-its}
 use Rattle.conversation.proofs.laws.Counts.{fresh-sound}
 use Rattle.together.specs.Together.{running-at}
 use Rattle.together.proofs.laws.Together.{asks, turn, judged-some, judged-none}
-use Rattle.report.specs.inner.Playing.{InTurn}
+use Rattle.report.specs.inner.Playing.{HasTurn}
 
 clash : {X : Type 0} → _≡_ {A = ℕ} 0 1 → X
 clash z = absurd (omega arith)
@@ -50,7 +50,7 @@ heard-as Forwarded s = some (s .position)
 heard-as (Blamed side why) s = none
 heard-as (Refused q) s = none
 
-module _ (t : Words) (i : ℕ) (side : Party) (u : InTurn t i side) (bytes : List ℕ) (formed : well-formed bytes ≡ true) (before : List ℕ)
+module _ (t : Words) (i : ℕ) (side : Party) (u : HasTurn t i side) (bytes : List ℕ) (formed : well-formed bytes ≡ true) (before : List ℕ)
     (room : length bytes ≤ length before) (r : Stepped) (after : List ℕ) (c d : Counts) (begun : c ≡ starting t 1 .counts)
     (k : (outcome r after, d) ≡ counted-step t (running-at i) c side bytes before) where
   -- counts that are started pass 9, so the step is what it is without them

@@ -27,7 +27,7 @@ use Rattle.report.specs.declared.play.Heard.the-variants as H
 -- ---- one message at one table
 
 -- the table is sound, and at that state of it it is the side's turn
-pub record InTurn (t : Words) (i : ℕ) (side : Party) : Type 0 where
+pub record HasTurn (t : Words) (i : ℕ) (side : Party) : Type 0 where
   pub sound : sound-of t ≡ true
   pub inside : i < states-of t
   pub turn : speaker (sort (view t) i) ≡ some side

@@ -2,9 +2,9 @@
 use mathlib.Core.Path.{refl}
 use Rattle.utf8.specs.Utf8.{within, utf8-char, some-row, octets, is-utf8}
 use Rattle.utf8.specs.Scalars.{encode, encode-all}
-use Rattle.utf8.specs.Utf8Examples.{Examples}
+use Rattle.utf8.specs.Utf8Examples.{Utf8Examples}
 
-pub examples : Examples
+pub examples : Utf8Examples
 unfolding within utf8-char some-row octets is-utf8 encode encode-all
 examples =
     record {

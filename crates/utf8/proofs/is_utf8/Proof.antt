@@ -4,13 +4,13 @@ use Prim.Native.Nat.{_+_, _-_}
 use native.Mathlib.Omega.{arith}
 use lib.ListN.{length}
 use borrow.Author.Needs.{needs}
-use Rattle.utf8.specs.inner.Characters.{Spans}
+use Rattle.utf8.specs.inner.Characters.{WholeChars}
 use Rattle.utf8.proofs.laws.Characters.{ascii-spans, span-on, span-all}
 use Rattle.utf8.proofs.is_utf8.Statement.{statement}
 use Rattle.utf8.proofs.is_utf8.Tie as tie
 
 abbrev Inv-loop : tie.InvT-loop
-Inv-loop bytes i₀ i = Spans bytes 0 i
+Inv-loop bytes i₀ i = WholeChars bytes 0 i
 
 abbrev μ-loop : tie.MeasureT-loop
 μ-loop bytes i₀ i = length bytes - i
@@ -23,7 +23,7 @@ returns c = sym (c .before .before .before .loop .inv .same ∙ c .before .width
 
 -- where the width is not 0 a character stands there
 whole : (c : tie.Else1 Inv-loop μ-loop)
-    → Spans (c .before .before .before .before .before .before .args .bytes .now) (c .before .before .before .loop .i) (c .before .before .before .loop .i + c .before .width .result)
+    → WholeChars (c .before .before .before .before .before .before .args .bytes .now) (c .before .before .before .loop .i) (c .before .before .before .loop .i + c .before .width .result)
 whole c = c .before .width .ensures .whole (omega arith)
 
 add-i : tie.Need-add-i Inv-loop μ-loop

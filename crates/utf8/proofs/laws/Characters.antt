@@ -13,7 +13,7 @@ use lib.Dec.{lit<, eqb}
 use borrow.Author.Tests.{eq-eqb, ne-eqb}
 use lib.Bits.{bitAnd, bitOr, and-block, and-high, and-le-l, and-le-r, or-add-and}
 use Rattle.utf8.specs.Utf8.{Range, _to_, utf8-tail, within, octets, is-utf8}
-use Rattle.utf8.specs.inner.Characters.{size, second, low-first, is-ascii, Spans, Ascii, AsciiTo, Width}
+use Rattle.utf8.specs.inner.Characters.{char-size, second, low-first, is-ascii, WholeChars, Ascii, AsciiTo, Width}
 use Rattle.utf8.proofs.laws.Utf8.{inside, above, both, within-says, tails, due, lead, no-lead, lead-one, lt-or-ge}
 
 fails : (t : Bool) {u : Bool} → u ≡ false → (t && u) ≡ false
@@ -87,7 +87,7 @@ module _ (bs : List ℕ) where
   taken r rs k j l q e = ap (octets (r ∷ rs)) (from k l) ∙ ap₂ (λ t i. t && octets rs (drop i bs)) e q
 
   -- a character's first byte
-  begun : (k n : ℕ) → k < length bs → size (at k) ≡ suc n → is-utf8 (drop k bs) ≡ octets (due (at k) n) (drop (k + 1) bs)
+  begun : (k n : ℕ) → k < length bs → char-size (at k) ≡ suc n → is-utf8 (drop k bs) ≡ octets (due (at k) n) (drop (k + 1) bs)
   unfolding is-utf8
   begun k n l e = ap (octets []) (from k l) ∙ lead (at k) (drop (k + 1) bs) n e
 
@@ -103,21 +103,21 @@ module _ (bs : List ℕ) where
   -- ---- the ways out of `width`, at a place k
 
   module _ (k : ℕ) (l : k < length bs) where
-    pub width-cut : length bs - k < size (at k) → Width bs k 0
+    pub width-cut : length bs - k < char-size (at k) → Width bs k 0
     width-cut h =
-        let m = size (at k) - 1 in
-        let e : size (at k) ≡ suc m = omega arith in
+        let m = char-size (at k) - 1 in
+        let e : char-size (at k) ≡ suc m = omega arith in
         no k (begun k m l e ∙ cut (due (at k) m) (drop (k + 1) bs) (omega (arith, due-length (at k) m, length-drop (k + 1) bs)))
 
-    pub width-none : size (at k) ≡ 0 → Width bs k 0
+    pub width-none : char-size (at k) ≡ 0 → Width bs k 0
     unfolding is-utf8
     width-none e = no k (ap (octets []) (from k l) ∙ no-lead (at k) (drop (k + 1) bs) e)
 
-    pub width-one : size (at k) ≡ 1 → Width bs k 1
+    pub width-one : char-size (at k) ≡ 1 → Width bs k 1
     unfolding is-utf8 due
     width-one e = yes k 1 (omega arith) (omega arith) (begun k 0 l e)
 
-    module _ (n : ℕ) (e : size (at k) ≡ n) (room : n ≤ length bs - k) where
+    module _ (n : ℕ) (e : char-size (at k) ≡ n) (room : n ≤ length bs - k) where
       -- the second byte, with m tails due behind it
       and-second : (m : ℕ) {t : Bool} → n ≡ suc (suc m) → within (second (at k)) (at (k + 1)) ≡ t
           → is-utf8 (drop k bs) ≡ (t && octets (tails m) (drop (k + 2) bs))
@@ -197,7 +197,7 @@ module _ (bs : List ℕ) where
   ascii-none k l = record { onward = omega arith; inside = l; low = λ j f g. absurd (omega arith) }
 
   -- ASCII is whole characters
-  pub ascii-spans : {i j : ℕ} → Ascii bs i j → Spans bs i j
+  pub ascii-spans : {i j : ℕ} → Ascii bs i j → WholeChars bs i j
   ascii-spans {i} {j} a = record {
     onward = a .onward;
     inside = a .inside;
@@ -262,9 +262,9 @@ ascii-drop (suc n) (b ∷ bs) e = ascii-drop n bs (both (within (0x00 to 0x7F) b
 
 -- ---- passing
 
-pub span-on : {bs : List ℕ} {i j k : ℕ} → Spans bs i j → Spans bs j k → Spans bs i k
+pub span-on : {bs : List ℕ} {i j k : ℕ} → WholeChars bs i j → WholeChars bs j k → WholeChars bs i k
 span-on p q = let a = p .onward in let b = q .onward in record { onward = omega arith; inside = q .inside; same = p .same ∙ q .same }
 
-pub span-all : (bs : List ℕ) (k : ℕ) → Spans bs 0 k → length bs ≤ k → true ≡ is-utf8 bs
+pub span-all : (bs : List ℕ) (k : ℕ) → WholeChars bs 0 k → length bs ≤ k → true ≡ is-utf8 bs
 unfolding is-utf8 octets
 span-all bs k p l = sym (p .same ∙ ap (octets []) (drop-of-length-le bs l))

@@ -10,7 +10,7 @@ use lib.Seq.{split-at}
 use lib.Dec.{T, leb, ltb, ltb→lt, nltb→le}
 use borrow.Author.Tests.{leb-true, ltb-true, lt-ltb, le-ltb, le-leb, lt-leb, ne-eqb}
 use Rattle.utf8.specs.Utf8.{Range, Row, _to_, _then_, utf8-tail, within, utf8-char, some-row, octets}
-use Rattle.utf8.specs.inner.Characters.{size, second}
+use Rattle.utf8.specs.inner.Characters.{char-size, second}
 
 pub both : (a b : Bool) → (a && b) ≡ true → (a ≡ true) × (b ≡ true)
 both true b e = (refl, e)
@@ -126,35 +126,35 @@ lt-or-ge a b = go (ltb a b) (ltb→lt a b) (nltb→le a b)
     go false y n = inr (n tt)
 
 module _ (a : ℕ) where
-  pub size-one : a < 0x80 → size a ≡ 1
-  unfolding size
+  pub size-one : a < 0x80 → char-size a ≡ 1
+  unfolding char-size
   size-one h = simp (lt-ltb a 0x80 h)
 
-  pub size-low : 0x80 ≤ a → a < 0xC2 → size a ≡ 0
-  unfolding size
+  pub size-low : 0x80 ≤ a → a < 0xC2 → char-size a ≡ 0
+  unfolding char-size
   size-low l h = simp (le-ltb a 0x80 l, lt-ltb a 0xC2 h)
 
-  pub size-two : 0xC2 ≤ a → a < 0xE0 → size a ≡ 2
-  unfolding size
+  pub size-two : 0xC2 ≤ a → a < 0xE0 → char-size a ≡ 2
+  unfolding char-size
   size-two l h = simp (le-ltb a 0x80 (omega arith), le-ltb a 0xC2 l, lt-ltb a 0xE0 h)
 
-  pub size-three : 0xE0 ≤ a → a < 0xF0 → size a ≡ 3
-  unfolding size
+  pub size-three : 0xE0 ≤ a → a < 0xF0 → char-size a ≡ 3
+  unfolding char-size
   size-three l h = simp (le-ltb a 0x80 (omega arith), le-ltb a 0xC2 (omega arith), le-ltb a 0xE0 l, lt-ltb a 0xF0 h)
 
-  pub size-four : 0xF0 ≤ a → a < 0xF5 → size a ≡ 4
-  unfolding size
+  pub size-four : 0xF0 ≤ a → a < 0xF5 → char-size a ≡ 4
+  unfolding char-size
   size-four l h =
       simp (le-ltb a 0x80 (omega arith), le-ltb a 0xC2 (omega arith), le-ltb a 0xE0 (omega arith), le-ltb a 0xF0 l, lt-ltb a 0xF5 h)
 
-  pub size-high : 0xF5 ≤ a → size a ≡ 0
-  unfolding size
+  pub size-high : 0xF5 ≤ a → char-size a ≡ 0
+  unfolding char-size
   size-high l =
       simp (le-ltb a 0x80 (omega arith), le-ltb a 0xC2 (omega arith), le-ltb a 0xE0 (omega arith), le-ltb a 0xF0 (omega arith), le-ltb a 0xF5 l)
 
 module _ {X : Type 0} (a : ℕ) where
-  pub by-size : (a < 0x80 → size a ≡ 1 → X) → (0x80 ≤ a → a < 0xC2 → size a ≡ 0 → X) → (0xC2 ≤ a → a < 0xE0 → size a ≡ 2 → X)
-      → (0xE0 ≤ a → a < 0xF0 → size a ≡ 3 → X) → (0xF0 ≤ a → a < 0xF5 → size a ≡ 4 → X) → (0xF5 ≤ a → size a ≡ 0 → X) → X
+  pub by-size : (a < 0x80 → char-size a ≡ 1 → X) → (0x80 ≤ a → a < 0xC2 → char-size a ≡ 0 → X) → (0xC2 ≤ a → a < 0xE0 → char-size a ≡ 2 → X)
+      → (0xE0 ≤ a → a < 0xF0 → char-size a ≡ 3 → X) → (0xF0 ≤ a → a < 0xF5 → char-size a ≡ 4 → X) → (0xF5 ≤ a → char-size a ≡ 0 → X) → X
   by-size one low two three four high =
       ⊎-elim (λ h. one h (size-one a h)) (λ l.
       ⊎-elim (λ h. low l h (size-low a l h)) (λ m.
@@ -210,7 +210,7 @@ module _ (a : ℕ) (bs : List ℕ) where
       back e = ap (λ r. octets (r ∷ utf8-tail ∷ utf8-tail ∷ []) bs) (sym e)
 
   -- a byte that announces n more leaves them due
-  pub lead : (n : ℕ) → size a ≡ suc n → octets [] (a ∷ bs) ≡ octets (due a n) bs
+  pub lead : (n : ℕ) → char-size a ≡ suc n → octets [] (a ∷ bs) ≡ octets (due a n) bs
   unfolding due tails
   lead n e =
       by-size a (λ h q. lead-one h ∙ at 0 (omega arith)) (λ l h q. absurd (omega arith))
@@ -221,10 +221,10 @@ module _ (a : ℕ) (bs : List ℕ) where
       at m q = ap (λ k. octets (due a k) bs) q
 
   -- a byte that announces none begins nothing
-  pub no-lead : size a ≡ 0 → octets [] (a ∷ bs) ≡ false
+  pub no-lead : char-size a ≡ 0 → octets [] (a ∷ bs) ≡ false
   no-lead e =
       by-size a (λ h q. absurd (omega arith)) (λ l h q. row-low a bs l h) (λ l h q. absurd (omega arith))
       (λ l h q. absurd (omega arith)) (λ l h q. absurd (omega arith)) (λ l q. row-high a bs l)
 
-pub size-most : (a : ℕ) → size a ≤ 4
+pub size-most : (a : ℕ) → char-size a ≤ 4
 size-most a = by-size a (λ h q. omega arith) (λ l h q. omega arith) (λ l h q. omega arith) (λ l h q. omega arith) (λ l h q. omega arith) (λ l q. omega arith)

@@ -15,7 +15,7 @@ is-ascii [] = true
 is-ascii (b ∷ bs) = within (0x00 to 0x7F) b && is-ascii bs
 
 -- from one place to a later one there are whole characters: what is behind them decides
-pub record Spans (bs : List ℕ) (from next : ℕ) : Type 0 where
+pub record WholeChars (bs : List ℕ) (from next : ℕ) : Type 0 where
   pub onward : from ≤ next
   pub inside : next ≤ length bs
   pub same : is-utf8 (drop from bs) ≡ is-utf8 (drop next bs)
@@ -33,12 +33,12 @@ pub record AsciiTo (bs : List ℕ) (from next : ℕ) : Type 0 where
 
 -- n bytes are the character at a place; or n is 0 and none stands there
 pub record Width (bs : List ℕ) (at n : ℕ) : Type 0 where
-  pub whole : 0 < n → Spans bs at (at + n)
+  pub whole : 0 < n → WholeChars bs at (at + n)
   pub broken : n ≡ 0 → is-utf8 (drop at bs) ≡ false
 
 -- how many bytes a character has that a byte leads; 0 where it leads none
-unfoldable pub size : ℕ → ℕ
-size a =
+unfoldable pub char-size : ℕ → ℕ
+char-size a =
     cond (ltb a 0x80) 1
     (cond (ltb a 0xC2) 0 (cond (ltb a 0xE0) 2 (cond (ltb a 0xF0) 3 (cond (ltb a 0xF5) 4 0))))
 
