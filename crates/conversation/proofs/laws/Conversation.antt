@@ -93,6 +93,11 @@ pub blamed-for-good : (a b : List Event) (side : Party) → blamed-first a ≡ s
 unfolding or-else
 blamed-for-good a b side h = blamed-append a b ∙ ap (λ o. or-else o (blamed-first b)) h
 
+-- where nobody is blamed before
+pub blamed-once : (a : List Event) (e : Event) → blamed-first a ≡ none → blamed-first (a ++ (e ∷ [])) ≡ blamed-first (e ∷ [])
+unfolding or-else
+blamed-once a e h = blamed-append a (e ∷ []) ∙ ap (λ o. or-else o (blamed-first (e ∷ []))) h
+
 -- ---- the state that messages lead to is one of the table's
 
 goes-target : (n : ℕ) (g : ℕ → T.Branch) (i : ℕ) (m : Message) (j : ℕ) → goes (upto n g) i m ≡ some j
@@ -487,6 +492,15 @@ module _ (t : List ℕ) (sound : sound-of t ≡ true) where
       → Right t earlier e
   unfolding conversation
   each-right sent earlier e later h = in-place [] fresh (stands-fresh t) sent earlier e later h
+
+  -- who is blamed in a conversation is blamed first
+  pub blamed-there : (sent : List Sent) (earlier : List Event) (e : Event) (later : List Event) → conversation t sent ≡ earlier ++ (e ∷ later)
+      → (side : Party) (r : ℕ) (f : Option ℕ) → e .done .verdict ≡ blamed side r f → blamed-first (conversation t sent) ≡ some side
+  unfolding blamed-first blamed-else
+  blamed-there sent earlier e later h side r f v =
+      let free = each-right sent earlier e later h .met .handled .blames side r f .0 v .0 .unblamed in
+      ap blamed-first (h ∙ sym (append-assoc earlier (e ∷ []) later))
+      ∙ blamed-for-good (earlier ++ (e ∷ [])) later side (blamed-once earlier e free ∙ rw v)
 
 -- ---- events one behind the other
 

@@ -3,10 +3,9 @@
 -- Assumes nothing.
 use mathlib.Core.Path.{_≡_, refl, sym, ap, subst, _∙_}
 use mathlib.Core.Bool.{Bool, true, false, cond}
-use mathlib.Core.List.{List, [], _∷_, _++_, map, append-assoc, append-nil}
+use mathlib.Core.List.{List, [], _∷_, _++_, append-assoc, append-nil}
 use mathlib.Core.Option.{Option, none, some}
 use Prim.Native.Nat.{ℕ}
-use native.Mathlib.Omega.{arith}
 use Rattle.table.specs.Lists.{every}
 use Rattle.table.specs.Table.{Sort, ends, sends, receives, same-sort, sort-code, speaker, is-party}
 use Rattle.table.specs.View.{Words, view}
@@ -17,37 +16,15 @@ use Rattle.table.proofs.laws.SameSort.{same-sort-eq}
 use Rattle.message.specs.Message.{read, well-formed}
 use Rattle.message.specs.Rules.{Rules, table-rules, Said, turn, next, leads, led}
 use Rattle.message.proofs.laws.Judge.{none-some, some-eq}
-use Rattle.conversation.specs.Step.{Told, refused, blamed, forwarded, Outcome, outcome}
-use Rattle.conversation.proofs.laws.Conversation.{or-else, blamed-append, blamed-for-good, forwarded-append, leads-more}
-use Rattle.conversation.proofs.claims.DemandTwo.{demand-two, replies-kept}
+use Rattle.conversation.specs.Step.{Told, refused, blamed, forwarded}
+use Rattle.conversation.proofs.laws.Conversation.{blamed-for-good, blamed-once, forwarded-append, leads-more}
+use Rattle.conversation.proofs.claims.DemandTwo.{demand-two}
 use Rattle.machine.proofs.laws.Reachable.{moves-append}
-use Rattle.conversation.specs.Conversation.{Sent, Event, conversation, said-by, is-forwarded, forwarded-ones, blamed-else, blamed-first, Judgeable, Met, WatchedTable, Reply}
+use Rattle.conversation.specs.Conversation.{Sent, Event, conversation, said-by, is-forwarded, forwarded-ones, blamed-else, blamed-first, Judgeable, Met, WatchedTable}
 use Rattle.machine.specs.Machine.{Standing, running, device-blamed, jammed, Machine, Move, moves, Effect, forward, halt, from-device, from-host, while-running, arrived, fresh-machine, by-side, effect, does, after, move, play, run, bad, Safe}
-use Rattle.together.specs.Unblamed.{FitsUnblamed, RepliesUnblamed}
+use Rattle.together.specs.Unblamed.{FitsUnblamed}
 
 -- ---- lists in a row
-
--- who is blamed first, where nobody is blamed before; and once somebody is
-blamed-once : (a : List Event) (e : Event) → blamed-first a ≡ none → blamed-first (a ++ (e ∷ [])) ≡ blamed-first (e ∷ [])
-unfolding or-else
-blamed-once a e h = blamed-append a (e ∷ []) ∙ ap (λ o. or-else o (blamed-first (e ∷ []))) h
-
--- where two lists are mapped to one, each element of the first has its fellow in the second
-record Fellow {A B C : Type 0} (f : A → C) (g : B → C) (a : A) (bs : List B) : Type 0 where
-  before : List B
-  its : B
-  behind : List B
-  split : bs ≡ before ++ (its ∷ behind)
-  same : f a ≡ g its
-
-fellow : {A B C : Type 0} (f : A → C) (g : B → C) (front : List A) (a : A) (rest : List A) (bs : List B)
-    → map f (front ++ (a ∷ rest)) ≡ map g bs → Fellow f g a bs
-fellow f g [] a rest [] e = let z : _≡_ {A = ℕ} 0 1 = cc in absurd (omega arith)
-fellow f g (x ∷ front) a rest [] e = let z : _≡_ {A = ℕ} 0 1 = cc in absurd (omega arith)
-fellow f g [] a rest (b ∷ bs) e = record { before = []; its = b; behind = bs; split = refl; same = cc }
-fellow f g (x ∷ front) a rest (b ∷ bs) e =
-    let y = fellow f g front a rest bs cc in
-    record { before = b ∷ y .before; its = y .its; behind = y .behind; split = ap (λ l. b ∷ l) (y .split); same = y .same }
 
 module _ {D P : Type 0} (d : Rules D) (p : Rules P) where
   play-append : (m : Machine D P) (vs ws : List Move) → play d p m (vs ++ ws) ≡ play d p (play d p m vs) ws
@@ -337,25 +314,3 @@ fits-unblamed D d p sound safe sent keeps = record { never = f .spared; followed
     f : Following D d p safe (conversation p sent)
     f = follow D d p safe [] (conversation p sent) (start D d p safe) (λ a e b q. w .demand .each a e b q)
         (λ a e b q m s j x h. keeps a e b q s (subst (λ (i : ℕ). Judgeable (table-rules (view p)) a i (e .sent)) (some-eq (sym (m .there) ∙ w .before a e b q .position)) j) x h)
-
-pub replies-unblamed : RepliesUnblamed
-unfolding outcome blamed-first blamed-else
-replies-unblamed D d p sound safe answers kept keeps earlier a later q r g b = fits-unblamed D d p sound safe sent keeps .never first
-  where
-    sent : List Sent
-    sent = map (λ (a : Reply). a .sent) answers
-
-    x : Fellow (λ (a : Reply). outcome (a .given) (a .output)) (λ (e : Event). e .done) a (conversation p sent)
-    x = fellow (λ (a : Reply). outcome (a .given) (a .output)) (λ (e : Event). e .done) earlier a later (conversation p sent)
-        (ap (map (λ (a : Reply). outcome (a .given) (a .output))) (sym q) ∙ replies-kept p answers kept)
-
-    verdict : x .its .done .verdict ≡ blamed Device r g
-    verdict = sym (ap (λ (o : Outcome). o .verdict) (x .same)) ∙ b
-
-    unblamed : blamed-first (x .before) ≡ none
-    unblamed = demand-two p sound sent .demand .each (x .before) (x .its) (x .behind) (x .split) .handled .blames Device r g .0 verdict .0 .unblamed
-
-    first : blamed-first (conversation p sent) ≡ some Device
-    first =
-        ap blamed-first (x .split ∙ sym (append-assoc (x .before) (x .its ∷ []) (x .behind)))
-        ∙ blamed-for-good (x .before ++ (x .its ∷ [])) (x .behind) Device (blamed-once (x .before) (x .its) unblamed ∙ rw verdict)
