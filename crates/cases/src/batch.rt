@@ -1,7 +1,6 @@
 // The batch over a lent state, and whether it goes as a line wants it. The file `batches` says what the numbers are.
 ghost use mathlib.Core.Path.{_≡_};
-ghost use Rattle.conversation.specs.Batch.{batched};
-ghost use Rattle.conversation.specs.Counts.{counted-batch};
+ghost use Rattle.conversation.specs.Batch.{lent, batching, batched};
 use super::part;
 use super::step;
 use super::step::Outcome;
@@ -22,9 +21,9 @@ fn batched(
     to_device: &mut [u8],
     to_host: &mut [u8],
 ) -> Batched
-    ensures { λ r. ⌜ (batched r (now («to_device» .exit)) (now («to_host» .exit)), now (c .exit))
-        ≡ counted-batch (now (t .entry)) s (now (c .entry)) (now (device .entry)) (now (host .entry))
-        (now («to_device» .entry)) (now («to_host» .entry)) ⌝ }
+    ensures { λ r. ⌜ batched r (now (c .exit)) (now («to_device» .exit)) (now («to_host» .exit))
+        ≡ batching (now (t .entry)) s (now (c .entry))
+        (lent (now (device .entry)) (now (host .entry)) (now («to_device» .entry)) (now («to_host» .entry))) ⌝ }
 {
     let mut state = s;
     let passed = monitor::batch::advance(t, &mut state, c, device, host, to_device, to_host);

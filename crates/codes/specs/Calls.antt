@@ -15,8 +15,8 @@ use Rattle.conversation.specs.Step.{of-state, Told, refused, blamed, forwarded,
 use Rattle.table.specs.Lists.{first-no}
 use Rattle.conversation.specs.Due.{Seen, cut, Awaited, of-side, first-length}
 use Rattle.conversation.specs.Due as D
-use Rattle.conversation.specs.Batch.{Batch, batch-questions, begun}
-use Rattle.conversation.specs.Counts.{Counts, counts-sound, counted-step, counted-turn, counted-due, counted-batch}
+use Rattle.conversation.specs.Counts.{Counts, counts-sound, counted-step, counted-turn, counted-due}
+use Rattle.conversation.specs.Batch.{Both, Left, Batch, batch-questions, begun, batching}
 use Rattle.conversation.specs.Warning.{warning}
 use Rattle.message.specs.Make.{opening}
 use Rattle.message.specs.Rules.{table-rules}
@@ -57,10 +57,10 @@ step-codes t bytes c side message out = crossing (stepping-as (code-side side) t
 unfoldable pub batch-codes : Batch → C.Batch
 batch-codes b =
     record {
-      «used_device» = b .device .used;
-      «used_host» = b .host .used;
-      «written_to_device» = b .host .written;
-      «written_to_host» = b .device .written;
+      «used_device» = b .lanes .device .used;
+      «used_host» = b .lanes .host .used;
+      «written_to_device» = b .lanes .host .written;
+      «written_to_host» = b .lanes .device .written;
       last = last-codes (b .last);
       reserved = 0 ∷ 0 ∷ 0 ∷ [];
     }
@@ -74,12 +74,11 @@ unfoldable pub bytes-for : M.State → List ℕ → List ℕ
 bytes-for s bytes = cond (stand-for (getD bytes 0 0) (getD bytes 1 0) s) bytes (state-bytes s)
 
 -- the answer, the state's two bytes, its counts, the device's output and the host's
-unfoldable pub batch-crossing : Batch × Counts → List ℕ → C.Batch × List ℕ × Counts × List ℕ × List ℕ
-batch-crossing (b, c) bytes = (batch-codes b, bytes-for (b .state) bytes, c, b .host .output, b .device .output)
+unfoldable pub batch-crossing : Batch → List ℕ → C.Batch × List ℕ × Counts × List ℕ × List ℕ
+batch-crossing b bytes = (batch-codes b, bytes-for (b .state) bytes, b .counts, b .lanes .host .output, b .lanes .device .output)
 
-unfoldable pub batching-codes : Words → List ℕ → Counts → List ℕ → List ℕ → List ℕ → List ℕ → C.Batch × List ℕ × Counts × List ℕ × List ℕ
-batching-codes t bytes c device host to-device to-host =
-    batch-crossing (counted-batch t (state-in bytes) c device host to-device to-host) bytes
+unfoldable pub batching-codes : Words → List ℕ → Counts → Both Left → C.Batch × List ℕ × Counts × List ℕ × List ℕ
+batching-codes t bytes c l = batch-crossing (batching t (state-in bytes) c l) bytes
 
 -- ---- the due part
 
@@ -118,18 +117,14 @@ CodesStep =
 -- over the codes of a state, a batch is the monitor's own, in codes
 abbrev pub CodesBatch : Type 0
 CodesBatch =
-    (t : Words) (s : M.State) (c : Counts) (device host to-device to-host : List ℕ)
-    → let x = counted-batch t s c device host to-device to-host in
-    batching-codes t (state-bytes s) c device host to-device to-host
-    ≡ (batch-codes (x .0), state-bytes (x .0 .state), x .1, x .0 .host .output, x .0 .device .output)
+    (t : Words) (s : M.State) (c : Counts) (l : Both Left) → let b = batching t s c l in
+    batching-codes t (state-bytes s) c l ≡ (batch-codes b, state-bytes (b .state), b .counts, b .lanes .host .output, b .lanes .device .output)
 
 -- a batch that 9 or 10 refuses: nothing used or written, the question, and every lent byte as it was, whatever the state's two bytes are
 abbrev pub BatchRefused : Type 0
 BatchRefused =
-    (t : Words) (bytes : List ℕ) (c : Counts) (device host to-device to-host : List ℕ) (q : ℕ)
-    → q ≡ cond (counts-sound t c) (first-no (batch-questions t (state-in bytes))) 9 → (q ≡ 0 → ⊥)
-    → batching-codes t bytes c device host to-device to-host
-    ≡ (batch-codes (begun (state-in bytes) to-device to-host (some (refused q))), bytes, c, to-device, to-host)
+    (t : Words) (bytes : List ℕ) (c : Counts) (l : Both Left) (q : ℕ) → q ≡ first-no (batch-questions t (state-in bytes) c) → (q ≡ 0 → ⊥)
+    → batching-codes t bytes c l ≡ (batch-codes (begun (state-in bytes) c l (some (refused q))), bytes, c, l .host .output, l .device .output)
 
 -- the side and the length that are told as due are the due part of document 01
 abbrev pub DuePart : Type 0

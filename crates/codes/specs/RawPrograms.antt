@@ -55,7 +55,7 @@ raw-called t k (raw-step side message out) =
     let x = step-codes t (k .bytes) (k .counts) side message out in
     (step-gives (x .0) (x .3), record { bytes = x .1; counts = x .2 })
 raw-called t k (raw-batch device host to-device to-host) =
-    let x = batching-codes t (k .bytes) (k .counts) device host to-device to-host in
+    let x = batching-codes t (k .bytes) (k .counts) (lent device host to-device to-host) in
     (batch-gives (x .0) (x .3) (x .4), record { bytes = x .1; counts = x .2 })
 raw-called t k raw-turn = (turn-gives (turn-codes (counted-turn t (state-in (k .bytes)) (k .counts))), k)
 raw-called t k (raw-due device host) = (due-gives (due-codes (counted-turn t (state-in (k .bytes)) (k .counts)) device host), k)
@@ -171,6 +171,6 @@ RawWatched =
 abbrev pub RawNothingLost : Type 0
 RawNothingLost =
     (t : Words) (bytes : List ℕ) (c : Counts) (device host to-device to-host : List ℕ)
-    → let x = batching-codes t bytes c device host to-device to-host in
+    → let x = batching-codes t bytes c (lent device host to-device to-host) in
     Accounted (record { bytes = device; output = to-host }) (record { used = x .0 .«used_device»; written = x .0 .«written_to_host»; output = x .4 })
     × Accounted (record { bytes = host; output = to-device }) (record { used = x .0 .«used_host»; written = x .0 .«written_to_device»; output = x .3 })

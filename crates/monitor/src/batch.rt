@@ -2,14 +2,13 @@
 // does not change, and what a sound table's branch leads to is one of its states. Messages that are allowed go straight through;
 // the first that does not is taken by itself.
 ghost use mathlib.Core.Path.{_≡_};
-ghost use mathlib.Core.Bool.{true};
 ghost use mathlib.Core.List.{List};
 ghost use Prim.Native.Nat.{ℕ, _+_, _≤_};
-ghost use Rattle.conversation.specs.Step.{is-running};
-ghost use Rattle.conversation.specs.Batch.{latest, device-took, host-took, last-of, batched};
-ghost use Rattle.conversation.specs.inner.Keeping.{Within, is-last-forwarded, Rising};
-ghost use Rattle.monitor.specs.inner.Lanes.{Led, none-passed, passed-at, taken-of, turned-told, counted-one-turn};
-ghost use Rattle.conversation.specs.Counts.{counted-batch};
+ghost use Rattle.table.specs.declared.Party.the-variants.{Device, Host};
+ghost use Rattle.conversation.specs.Counts.{Counts};
+ghost use Rattle.conversation.specs.Batch.{lent, latest, took, one-turn, batching, last-of, batched};
+ghost use Rattle.conversation.specs.inner.Keeping.{is-last-forwarded};
+ghost use Rattle.monitor.specs.inner.Lanes.{bytes-waiting, On, Led, none-passed, passed-at, taken-of, turned-told};
 ghost use Rattle.conversation.specs.declared.State.{State};
 ghost use Rattle.conversation.specs.declared.Verdict.the-variants.{Forwarded};
 ghost use Rattle.conversation.specs.declared.batch.Last.the-variants.{Answer};
@@ -37,9 +36,9 @@ pub fn batch(
     to_device: &mut [u8],
     to_host: &mut [u8],
 ) -> Batched
-    ensures { λ r. ⌜ (batched r (now («to_device» .exit)) (now («to_host» .exit)), now (c .exit))
-        ≡ counted-batch (now (t .entry)) s (now (c .entry)) (now (device .entry)) (now (host .entry))
-        (now («to_device» .entry)) (now («to_host» .entry)) ⌝ }
+    ensures { λ r. ⌜ batched r (now (c .exit)) (now («to_device» .exit)) (now («to_host» .exit))
+        ≡ batching (now (t .entry)) s (now (c .entry))
+        (lent (now (device .entry)) (now (host .entry)) (now («to_device» .entry)) (now («to_host» .entry))) ⌝ }
 {
     let q = ask::of_batch(t, s, c);
     if q != 0 {
@@ -68,9 +67,9 @@ pub fn advance(
     to_device: &mut [u8],
     to_host: &mut [u8],
 ) -> Passed
-    ensures { λ r. ⌜ (batched (record { state = now (s .exit); passed = r }) (now («to_device» .exit)) (now («to_host» .exit)), now (c .exit))
-        ≡ counted-batch (now (t .entry)) (now (s .entry)) (now (c .entry)) (now (device .entry)) (now (host .entry))
-        (now («to_device» .entry)) (now («to_host» .entry)) ⌝ }
+    ensures { λ r. ⌜ batched (record { state = now (s .exit); passed = r }) (now (c .exit)) (now («to_device» .exit)) (now («to_host» .exit))
+        ≡ batching (now (t .entry)) (now (s .entry)) (now (c .entry))
+        (lent (now (device .entry)) (now (host .entry)) (now («to_device» .entry)) (now («to_host» .entry))) ⌝ }
 {
     let r = batch(t, *s, c, device, host, to_device, to_host);
     *s = r.state;
@@ -105,10 +104,10 @@ fn straight_on(
     to_device: &mut [u8],
     to_host: &mut [u8],
 ) -> Batched
-    requires { ⌜ Within (now t) (now device) (now host) (batched from (now «to_device») (now «to_host»))
-        × (is-running (from .state .standing) ≡ true) × Rising (now t) (now c) ⌝ }
-    ensures { λ r. ⌜ Led (now (t .entry)) (now (device .entry)) (now (host .entry)) (batched from (now («to_device» .entry)) (now («to_host» .entry)))
-        (now (c .entry)) (batched r (now («to_device» .exit)) (now («to_host» .exit))) (now (c .exit)) ⌝ }
+    requires { ⌜ On (now t) (bytes-waiting (now device) (now host)) (batched from (now c) (now «to_device») (now «to_host»)) ⌝ }
+    ensures { λ r. ⌜ Led (now (t .entry)) (bytes-waiting (now (device .entry)) (now (host .entry)))
+        (batched from (now (c .entry)) (now («to_device» .entry)) (now («to_host» .entry)))
+        (batched r (now (c .exit)) (now («to_device» .exit)) (now («to_host» .exit))) ⌝ }
 {
     let mut b = from;
     loop {
@@ -173,11 +172,10 @@ fn turn(
     to_device: &mut [u8],
     to_host: &mut [u8],
 ) -> Turned
-    requires { ⌜ Within (now t) (now device) (now host) (batched b (now «to_device») (now «to_host»))
-        × (is-running (b .state .standing) ≡ true) × Rising (now t) (now c) ⌝ }
-    ensures { λ r. ⌜ (turned-told r (now («to_device» .exit)) (now («to_host» .exit)), now (c .exit))
-        ≡ counted-one-turn (now (t .entry)) (now (device .entry)) (now (host .entry))
-        (batched b (now («to_device» .entry)) (now («to_host» .entry))) (now (c .entry)) ⌝ }
+    requires { ⌜ On (now t) (bytes-waiting (now device) (now host)) (batched b (now c) (now «to_device») (now «to_host»)) ⌝ }
+    ensures { λ r. ⌜ turned-told r (now (c .exit)) (now («to_device» .exit)) (now («to_host» .exit))
+        ≡ one-turn (now (t .entry)) (bytes-waiting (now (device .entry)) (now (host .entry)))
+        (batched b (now (c .entry)) (now («to_device» .entry)) (now («to_host» .entry))) ⌝ }
 {
     let s = b.state;
     let p = b.passed;
@@ -197,8 +195,8 @@ fn turn(
 }
 
 fn of_device(p: Passed, x: Taken) -> Turned
-    ensures { λ r. ⌜ ((s : State) (td th before : List ℕ)
-        → turned-told r td th ≡ device-took (taken-of x th) (batched (passed-at s p) td before)) ⌝ }
+    ensures { λ r. ⌜ ((s : State) (c d : Counts) (td th before : List ℕ)
+        → turned-told r d td th ≡ took Device (taken-of x d th) (batched (passed-at s p) c td before)) ⌝ }
 {
     let answer = x.answer;
     let before = p.last;
@@ -214,8 +212,8 @@ fn of_device(p: Passed, x: Taken) -> Turned
 }
 
 fn of_host(p: Passed, x: Taken) -> Turned
-    ensures { λ r. ⌜ ((s : State) (td th before : List ℕ)
-        → turned-told r td th ≡ host-took (taken-of x td) (batched (passed-at s p) before th)) ⌝ }
+    ensures { λ r. ⌜ ((s : State) (c d : Counts) (td th before : List ℕ)
+        → turned-told r d td th ≡ took Host (taken-of x d td) (batched (passed-at s p) c before th)) ⌝ }
 {
     let answer = x.answer;
     let before = p.last;

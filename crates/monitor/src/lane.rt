@@ -4,10 +4,10 @@ ghost use mathlib.Core.Bool.{true};
 ghost use Rattle.table.specs.View.{sound-of};
 ghost use Rattle.conversation.specs.Step.{told, stepping, outcome};
 ghost use Rattle.conversation.specs.Due.{awaited, of-side};
-ghost use Rattle.conversation.specs.Batch.{used-by, written-by, taking, last-of};
+ghost use Rattle.conversation.specs.Batch.{used-by, written-by, taking, lane-of};
 ghost use Rattle.conversation.specs.inner.Keeping.{Heard, LaneIn, Rising};
-ghost use Rattle.monitor.specs.inner.Lanes.{lane-of, taken-of, answer-counted, PassedOn};
-ghost use Rattle.conversation.specs.Counts.{counted, first-left};
+ghost use Rattle.monitor.specs.inner.Lanes.{taken-of, PassedOn};
+ghost use Rattle.conversation.specs.Counts.{counted};
 use super::copy;
 use super::judge;
 use super::straight;
@@ -55,8 +55,8 @@ pub fn take(
     out: &mut [u8],
 ) -> Taken
     requires { ⌜ (awaited (now t) s ≡ of-side side) × Rising (now t) (now c) × LaneIn (now bytes) (lane-of lane (now out)) ⌝ }
-    ensures { λ r. ⌜ (taken-of r (now (out .exit)) ≡ taking (now (t .entry)) s side (now (bytes .entry)) (lane-of lane (now (out .entry))))
-        × (now (c .exit) ≡ answer-counted (now (t .entry)) s (first-left (now (bytes .entry)) (lane-of lane (now (out .entry)))) (last-of (r .answer)) (now (c .entry))) ⌝ }
+    ensures { λ r. ⌜ taken-of r (now (c .exit)) (now (out .exit))
+        ≡ taking (now (t .entry)) s (now (c .entry)) side (now (bytes .entry)) (lane-of lane (now (out .entry))) ⌝ }
 {
     let at = lane.used;
     let rest = &bytes[at..];

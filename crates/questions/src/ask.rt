@@ -16,7 +16,7 @@ use table::Table;
 
 // The first of 9, on the counts, too, and 10 that gets a no, or 0.
 pub fn of_batch(t: &Table, s: State, c: &Counts) -> u8
-    ensures { λ r. ⌜ r ≡ cond (counts-sound (now (t .entry)) (now (c .entry))) (first-no (batch-questions (now (t .entry)) s)) 9 ⌝ }
+    ensures { λ r. ⌜ r ≡ first-no (batch-questions (now (t .entry)) s (now (c .entry))) ⌝ }
 {
     if !table::sound(t) {
         return 9;

@@ -1,5 +1,6 @@
 // The monitor over a scan's worth of messages: single steps on the due messages, in turn, over a lent state.
 ghost use mathlib.Core.Path.{_≡_};
+ghost use Rattle.conversation.specs.Batch.{lent};
 ghost use Rattle.codes.specs.Calls.{batching-codes};
 ghost use Rattle.sojimu.specs.inner.Parts.{passed-codes};
 use super::steps;
@@ -20,8 +21,8 @@ pub extern "C" fn sojimu_raw_batch(
     to_host: &mut [u8],
 ) -> Batch
     ensures { λ r. ⌜ (r, now (state .exit), now (counts .exit), now («to_device» .exit), now («to_host» .exit))
-        ≡ batching-codes (now (table .entry)) (now (state .entry)) (now (counts .entry)) (now (device .entry)) (now (host .entry))
-        (now («to_device» .entry)) (now («to_host» .entry)) ⌝ }
+        ≡ batching-codes (now (table .entry)) (now (state .entry)) (now (counts .entry))
+        (lent (now (device .entry)) (now (host .entry)) (now («to_device» .entry)) (now («to_host» .entry))) ⌝ }
 {
     let s = steps::state_in(state);
     let r = monitor::batch::batch(table, s, counts, device, host, to_device, to_host);

@@ -1,22 +1,14 @@
--- A batch over codes: whether two bytes stand for a state, those of the state after it, and a batch that is refused.
+-- A batch over codes: whether two bytes stand for a state, and those of the state after it.
 -- Assumes nothing.
 use mathlib.Core.Path.{_≡_, refl, sym, ap, ap₂, _∙_}
 use mathlib.Core.Bool.{Bool, true, false, cond}
 use mathlib.Core.List.{List, [], _∷_}
-use mathlib.Core.Option.{some}
 use Prim.Native.Nat.{ℕ}
 use lib.ListN.{getD}
 use lib.Dec.{eqb}
 use borrow.Author.Tests.{ne-eqb, eq-eqb, eqb-true}
-use Rattle.table.specs.Lists.{first-no}
-use Rattle.table.specs.View.{Words}
 use Rattle.table.proofs.laws.Lists.{both, join, left-fails}
 use Rattle.conversation.specs.declared.State.{State}
-use Rattle.conversation.specs.Step.{refused}
-use Rattle.conversation.specs.Batch.{batch-questions, begun}
-use Rattle.conversation.specs.Counts.{Counts, counts-sound, counted-batch}
-use Rattle.conversation.proofs.laws.CountedBatch.{batch-away}
-use Rattle.codes.specs.declared.batches.Batch as C
 use Rattle.codes.specs.Codes.{standing-code, standing-of, state-of, state-bytes}
 use Rattle.codes.specs.Calls.{stand-for, bytes-for}
 use Rattle.codes.proofs.laws.Codes.{standing-same}
@@ -54,20 +46,6 @@ kept-bytes s x = by (stand-for (s .position) (standing-code (s .standing)) x) re
         ap₂ (λ a c. a ∷ c ∷ []) (eqb-true (s .position) (x .position) (p .0))
         (sym (ap standing-code (standing-same (s .standing))) ∙ eqb-true _ (standing-code (x .standing)) (p .1))
 
--- ---- a batch that is refused
-
 pub own-bytes : (p c : ℕ) → stand-for p c (state-of p c) ≡ true
 unfolding stand-for
 own-bytes p c = join (eq-eqb p p refl) (eq-eqb (standing-code (standing-of c)) (standing-code (standing-of c)) refl)
-
-pub nothing-passed : (t : Words) (s : State) (c : Counts) (device host to-device to-host : List ℕ) (q : ℕ)
-    → q ≡ cond (counts-sound t c) (first-no (batch-questions t s)) 9 → (q ≡ 0 → ⊥)
-    → counted-batch t s c device host to-device to-host ≡ (begun s to-device to-host (some (refused q)), c)
-unfolding counted-batch
-nothing-passed t s c device host to-device to-host q e n = by (counts-sound t c) refl e
-  where
-    by : (b : Bool) → counts-sound t c ≡ b → q ≡ cond b (first-no (batch-questions t s)) 9
-        → counted-batch t s c device host to-device to-host ≡ (begun s to-device to-host (some (refused q)), c)
-    by true h e =
-        batch-away t s c h (record { device = device; host = host; «to-device» = to-device; «to-host» = to-host }) q e n
-    by false h e = rw (h, e)

@@ -139,14 +139,14 @@ module _ (t : Words) (s : State) (c : Counts) (l : Both Left) (x : Both (List �
   rest = left-by there joined
 
   within : Within t l there
-  within = turns-within t l (enough-turns l) (begun s c l none) (begun-within t l s c e)
+  within = turns-within t l (enough-turns l) (begun s c l none) (begun-within t l l s c e)
 
   all-first : turns (enough-turns joined) t joined (begun s c l none) ≡ turns (enough-turns joined) t joined there
   unfolding Later begun joined-by each-side at-side
   all-first =
-      let n = later t l x (enough-turns l) (begun s c l none) (begun-within t l s c e) in
+      let n = later t l x (enough-turns l) (begun s c l none) (begun-within t l l s c e) in
       let h : enough-turns joined + n .0 ≡ n .0 + enough-turns joined = omega arith in
-      sym (more-turns t joined (enough-turns joined) (n .0) (begun s c l none) (begun-within t joined s c e) (omega arith))
+      sym (more-turns t joined (enough-turns joined) (n .0) (begun s c l none) (begun-within t joined l s c e) (omega arith))
       ∙ ap (λ n. turns n t joined (begun s c l none)) h
       ∙ n .1 (enough-turns joined)
 
@@ -180,7 +180,7 @@ module _ (t : Words) (s : State) (c : Counts) (l : Both Left) (x : Both (List �
           length-drop (there .lanes .host .used) (joined .host .bytes),
         ) in
         ap (λ n. turns n t rest anew) h
-        ∙ more-turns t rest (enough-turns rest) k anew (begun-within t rest (there .state) (there .counts) again) (omega arith)
+        ∙ more-turns t rest (enough-turns rest) k anew (begun-within t rest rest (there .state) (there .counts) again) (omega arith)
         ∙ let-in t rest (there .state) (there .counts) again
 
     in-two : batching t s c joined ≡ onto there (batching t (there .state) (there .counts) rest)

@@ -293,17 +293,18 @@ on-over f r h = go-on-by (λ c. c ≡ r .1) f r (λ k. never k h) (λ k. refl)
 abbrev pub enough-turns : Both Left → ℕ
 enough-turns l = suc (length (l .device .bytes) + length (l .host .bytes))
 
-module _ (t : Words) (l : Both Left) (s : State) (c : Counts) where
-  pub begun-within : first-no (batch-questions t s c) ≡ 0 → Within t l (begun s c l none)
-  unfolding begun
-  begun-within e =
-      record {
-        sound = let x = entered t s c e in parts-sound t (s .position) (x .sound) (x .below);
-        inside =
-            each-by (λ side a. LaneIn (at-side side l .bytes) a) (λ side. untouched (at-side side l .output))
-            (λ side. record { used = omega arith; written = omega arith });
-      }
+-- whatever waits and whatever is lent
+pub begun-within : (t : Words) (l g : Both Left) (s : State) (c : Counts) → first-no (batch-questions t s c) ≡ 0 → Within t l (begun s c g none)
+unfolding begun
+begun-within t l g s c e =
+    record {
+      sound = let x = entered t s c e in parts-sound t (s .position) (x .sound) (x .below);
+      inside =
+          each-by (λ side a. LaneIn (at-side side l .bytes) a) (λ side. untouched (at-side side g .output))
+          (λ side. record { used = omega arith; written = omega arith });
+    }
 
+module _ (t : Words) (l : Both Left) (s : State) (c : Counts) where
   pub kept-out : (q : ℕ) → q ≡ first-no (batch-questions t s c) → (q ≡ 0 → ⊥) → begun s c l (some (refused q)) ≡ batching t s c l
   unfolding batching
   kept-out q e n = rw (sym e, ne-eqb q 0 n)

@@ -2,7 +2,7 @@
 -- Assumes nothing.
 use mathlib.Core.Path.{_≡_, refl, sym, ap, subst₂, _∙_}
 use mathlib.Core.Logic.{_↔_}
-use mathlib.Core.List.{List, map}
+use mathlib.Core.List.{List}
 use Prim.Native.Nat.{ℕ, _*_}
 use lib.ListN.{length}
 use borrow.Author.Tests.{le-leb}
@@ -21,8 +21,6 @@ use Rattle.types.specs.Types.{protocol-rules}
 use Rattle.types.proofs.laws.Agree.{Stands-for, Rules-alike}
 use Rattle.types.proofs.laws.TextRules.{text-rules}
 use Rattle.types.proofs.laws.Headline.{type-demand, type-early}
-use Rattle.conversation.specs.Conversation.{Event}
-use Rattle.conversation.proofs.claims.BatchesWatched.{batches-watched}
 use Rattle.machine.specs.Machine.{Move, Safe, Unsafe, Shortest}
 use Rattle.machine.specs.Answer.{Answer, refused, fits, fails, fit-questions, Demand}
 use Rattle.machine.proofs.claims.DemandThree.{demand-three}
@@ -30,7 +28,7 @@ use Rattle.machine.proofs.laws.Edition.{safe-back}
 use Rattle.machine.proofs.claims.FitFewest.{fit-fewest}
 use Rattle.together.proofs.claims.FitsUnblamed.{fits-unblamed}
 use Rattle.report.proofs.claims.ReportsFit.{reports-fit, reports-no-fit, reports-fewest}
-use Rattle.demands.specs.Demands.{TextOf, ReadOfTexts, OneProtocol, DemandTwoOfTexts, EarlyOfTexts, BatchesOfTexts, DemandThreeOfTexts, EditionsOfTexts, ReportsOfTexts, FewestOfTexts, ReportsFewestOfTexts, UnblamedOfTexts}
+use Rattle.demands.specs.Demands.{TextOf, ReadOfTexts, OneProtocol, DemandTwoOfTexts, EarlyOfTexts, DemandThreeOfTexts, EditionsOfTexts, ReportsOfTexts, FewestOfTexts, ReportsFewestOfTexts, UnblamedOfTexts}
 use Rattle.demands.proofs.laws.Likeness.{alike-itself, safe-like, unsafe-like, shortest-like}
 
 -- ---- one text
@@ -57,16 +55,6 @@ one-protocol s p q x y = syntax-unique s p q (writes s p x) (writes s q y)
 
 pub demand-two-of-texts : DemandTwoOfTexts
 demand-two-of-texts s t x sent = type-demand s (is-read s t x) t (writes s t x) sent
-
-pub batches-of-texts : BatchesOfTexts
-batches-of-texts s t x calls =
-    let b = batches-watched (reads s .table) (read-sound s (is-read s t x)) calls in
-    record {
-      events = b .events;
-      batches = b .batches;
-      conversing = b .conversing;
-      watched = demand-two-of-texts s t x (map (λ (e : Event). e .sent) (b .events));
-    }
 
 pub early-of-texts : EarlyOfTexts
 early-of-texts s p x sent = type-early s (is-read s p x) p (writes s p x) sent

@@ -18,7 +18,6 @@ use Rattle.conversation.specs.declared.State.{State}
 use Rattle.monitor.specs.declared.judge.Judged.{Judged}
 use Rattle.monitor.specs.declared.judge.Judged.the-variants.{Allowed, Forbidden}
 use Rattle.conversation.specs.Step.{of-state, step-questions, Told, refusing, blaming, forwarding, judging}
-use Rattle.conversation.specs.Due as Due
 use Rattle.conversation.specs.Counts.{Counts, counts-sound, raised, raised-by, counted, counted-step}
 use Rattle.conversation.specs.inner.Keeping.{Rising}
 use Rattle.monitor.specs.inner.Leaves.{judgement, judged-branch, Selects, Settled, Straight}

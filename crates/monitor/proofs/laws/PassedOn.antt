@@ -8,24 +8,25 @@ use native.Mathlib.Omega.{arith}
 use lib.ListN.{length, take, drop, length-drop}
 use lib.Seq.{take-all, drop-drop, drop-length, length-take-le}
 use Rattle.table.specs.Lists.{first-no}
-use Rattle.table.specs.View.{Words, branches-of, target-at, view}
+use Rattle.table.specs.View.{Words, branches-of, owner-at, target-at, view}
 use Rattle.table.specs.declared.Party.{Party}
 use Rattle.message.specs.Message.{read}
-use Rattle.message.specs.Judge.{allowed, selected, judge}
+use Rattle.message.specs.Judge.{allowed, judge}
 use Rattle.message.specs.Make.{opening}
 use Rattle.message.proofs.laws.Message.{formed-framed, formed-legal}
 use Rattle.conversation.specs.declared.State.{State}
 use Rattle.monitor.specs.declared.straight.Ahead.{Ahead}
-use Rattle.conversation.specs.Step.{forwarded, forwarding, judging, step-questions, stepping}
+use Rattle.conversation.specs.Step.{forwarded, forwarding, judging, step-questions}
 use Rattle.conversation.specs.Due.{of-side, awaited, first-length}
-use Rattle.conversation.specs.Batch.{Lane, used-by, written-by, taken, taking}
-use Rattle.conversation.specs.Counts.{first-left}
+use Rattle.conversation.specs.Counts.{Counts, raised, raised-by, counted}
+use Rattle.conversation.specs.Batch.{Lane, used-by, written-by, lane-on, taking}
 use Rattle.conversation.specs.inner.Keeping.{moved-to, Heard, LaneIn}
 use Rattle.monitor.specs.inner.Leaves.{Leading}
 use Rattle.monitor.specs.inner.Lanes.{PassedOn}
 use Rattle.conversation.proofs.laws.Step.{judged-as}
 use Rattle.conversation.proofs.laws.Due.{first-within}
 use Rattle.conversation.proofs.laws.Batch.{takes-one, due-yes, due-judged}
+use Rattle.conversation.proofs.laws.Counts.{chosen-branch, raised-at-is}
 
 -- ---- what is left, as the program has it
 
@@ -56,19 +57,24 @@ module _ (t : Words) (position : ℕ) (bytes : List ℕ) (l : Lane) (n r : ℕ)
   pub first-size : length (take n rest) ≡ n
   first-size = length-take-le n rest first-there
 
-  pub goes-straight : (s : State) (side : Party) → s .position ≡ position → awaited t s ≡ of-side side
-      → taking t s side bytes l
+  pub goes-straight : (s : State) (c : Counts) (side : Party) → s .position ≡ position → awaited t s ≡ of-side side
+      → taking t s c side bytes l
       ≡ record {
         answer = some forwarded;
         state = moved-to (target-at t r) s;
+        counts = raised c position r;
         lane = record { used = l .used + n; written = l .written + n; output = take (l .written) (l .output) ++ opening (take n rest) room };
       }
-  unfolding taken used-by written-by judging forwarding
-  goes-straight s side e a =
-      takes-one t s side bytes l some-first
-      ∙ ap (λ k. taken k (stepping t s side (take k rest) room) l) (x .first)
-      ∙ ap (λ y. taken n y l) (judged-as t s side (take n rest) room (allowed (target-at t r)) heard
-      (due-judged t s side (take n rest) room now-due ∙ ap (λ p. judge (view t) p (read (take n rest))) e ∙ x .by-branch .judged))
+  unfolding lane-on used-by written-by judging forwarding counted raised-by
+  goes-straight s c side e a =
+      takes-one t s c side bytes l some-first
+      ∙ rw (
+        x .first,
+        judged-as t s side (take n rest) room (allowed (target-at t r)) heard
+            (due-judged t s side (take n rest) room now-due ∙ ap (λ p. judge (view t) p (read (take n rest))) e ∙ x .by-branch .judged),
+        e,
+        raised-at-is t position (take n rest) c (some r) (x .by-branch .selected-one),
+      )
     where
       now-due : Heard t s side (take n rest)
       now-due = record { turn = a; framed = formed-framed (take n rest) (x .formed) }
@@ -76,9 +82,8 @@ module _ (t : Words) (position : ℕ) (bytes : List ℕ) (l : Lane) (n r : ℕ)
       heard : first-no (step-questions t s side (take n rest) (length room)) ≡ 0
       heard = due-yes t s side (take n rest) room now-due (formed-legal (take n rest) (x .formed)) (omega (arith, first-size, x .holds))
 
-  pub goes-by : (r < branches-of t) × (selected (view t) position (read (first-left bytes l)) ≡ some r)
-  unfolding first-left
-  goes-by = (x .by-branch .there, ap (λ k. selected (view t) position (read (take k rest))) (x .first) ∙ x .by-branch .selected-one)
+  pub goes-by : (r < branches-of t) × (owner-at t r ≡ position)
+  goes-by = chosen-branch t position (read (take n rest)) r (x .by-branch .selected-one)
 
 -- as the program has it
 module _ (t : Words) (position : ℕ) (bytes : List ℕ) (l : Lane) (i : LaneIn bytes l) (r : Ahead)
@@ -103,10 +108,10 @@ module _ (t : Words) (position : ℕ) (bytes : List ℕ) (l : Lane) (i : LaneIn 
   pub passed-on : r .branch < 128 → (out : List ℕ) → out ≡ opening first left
       → PassedOn t position bytes l (take (l .written) (l .output) ++ (out ++ drop (length (l .output) - l .written) (drop (l .written) (l .output)))) r
   passed-on u out e = record {
-    straight = λ h s side p a.
+    straight = λ h s c side p a.
         rw (e, whole-rest (l .used) bytes, whole-rest (l .written) (l .output), none-past (l .written) (l .output) (i .written), append-nil)
-        (goes-straight t position bytes l (r .length) (r .branch) ahead s side p a);
-    picked = λ h. goes-by t position bytes l (r .length) (r .branch) ahead;
+        (goes-straight t position bytes l (r .length) (r .branch) ahead s c side p a);
+    owned = λ h. goes-by t position bytes l (r .length) (r .branch) ahead;
     within = λ h. (
       omega (arith, first-there t position bytes l (r .length) (r .branch) ahead, length-drop (l .used) bytes, i .used),
       omega (arith, ahead .holds, length-drop (l .written) (l .output), i .written),

@@ -16,13 +16,13 @@ use Rattle.conversation.specs.Step.{of-state, Told, refused, told, refusing, ou
 use Rattle.table.specs.Lists.{first-no}
 use Rattle.conversation.specs.Due.{awaited}
 use Rattle.conversation.specs.Due as Due
-use Rattle.conversation.specs.Counts.{Counts, counts-sound, counted-step, counted-turn, counted-batch}
+use Rattle.conversation.specs.Counts.{Counts, counts-sound, counted-step, counted-turn}
 use Rattle.conversation.proofs.laws.Step.{zero-or, opened, stops-there, goes-on}
 use Rattle.conversation.proofs.laws.Due.{refused-turn, device-awaited, host-awaited}
 use Rattle.codes.specs.declared.steps.Verdict.{Verdict}
 use Rattle.codes.specs.Codes.{code-side, state-in, verdict-codes}
 use Rattle.conversation.specs.declared.batch.Batched.{Batched}
-use Rattle.conversation.specs.Batch.{Batch, batched}
+use Rattle.conversation.specs.Batch.{Both, Left, Batch, batching, batched}
 use Rattle.codes.specs.declared.batches.Batch as C
 use Rattle.codes.specs.Calls.{stepping-as, bytes-after, crossing, step-codes, bytes-for, batch-codes, batch-crossing, batching-codes}
 use Rattle.sojimu.specs.inner.Parts.{unspoken, passed-codes}
@@ -84,13 +84,12 @@ uncrossed t s side bytes c message out refusal verdict es ep er ev =
     (ap (λ v. (verdict-codes v, bytes, c, out)) (er ∙ refused-unspoken t s c ∙ ap (λ s. refused (cond (counts-sound t c) (out-of-turn t s) 9)) es))
 
 -- what a batch's parts give together
-pub batch-crossed : (t : Words) (s : State) (bytes : List ℕ) (c : Counts) (device host to-device to-host : List ℕ) (r : Batched) (told : C.Batch) (bytes' : List ℕ) (c' : Counts) (td th : List ℕ)
+pub batch-crossed : (t : Words) (s : State) (bytes : List ℕ) (c : Counts) (l : Both Left) (r : Batched) (told : C.Batch) (bytes' : List ℕ) (c' : Counts) (td th : List ℕ)
     → s ≡ state-in bytes
-    → (batched r td th, c') ≡ counted-batch t s c device host to-device to-host
+    → batched r c' td th ≡ batching t s c l
     → bytes' ≡ bytes-for (r .state) bytes
     → told ≡ passed-codes (r .passed)
-    → (told, bytes', c', td, th) ≡ batching-codes t bytes c device host to-device to-host
+    → (told, bytes', c', td, th) ≡ batching-codes t bytes c l
 unfolding batching-codes batch-crossing batch-codes batched passed-codes
-batch-crossed t s bytes c device host to-device to-host r told bytes' c' td th es er eb et =
-    rw (eb, et)
-    (ap (λ (x : Batch × Counts). batch-crossing x bytes) (er ∙ ap (λ (s : State). counted-batch t s c device host to-device to-host) es))
+batch-crossed t s bytes c l r told bytes' c' td th es er eb et =
+    rw (eb, et) (ap (λ (b : Batch). batch-crossing b bytes) (er ∙ ap (λ (s : State). batching t s c l) es))

@@ -3,13 +3,11 @@
 use mathlib.Core.Path.{_≡_, refl, sym, ap, ap₂, subst, _∙_}
 use mathlib.Core.Logic.{_↔_}
 use mathlib.Core.Bool.{Bool, true, false, _&&_, _||_, cond}
-use mathlib.Core.List.{List, _∷_}
+use mathlib.Core.List.{List}
 use mathlib.Core.Option.{Option, none, some, Option·some-injective}
 use Prim.Native.Nat.{ℕ}
-use lib.ListN.{length}
 use lib.Dec.{eqb}
-use Rattle.table.specs.Lists.{first-no}
-use Rattle.table.specs.Table.{Sort, is-choice, speaker, is-party}
+use Rattle.table.specs.Table.{is-choice, speaker, is-party}
 use Rattle.table.specs.View.{view}
 use Rattle.message.specs.Message.{read}
 use Rattle.message.specs.Judge.{Judgement, allowed, forbidden}
@@ -18,8 +16,8 @@ use Rattle.message.proofs.laws.Judge.{none-some}
 use Rattle.grammar.specs.Grammar.{Ty, Protocol, Writes}
 use Rattle.grammar.specs.Reading.{reads}
 use Rattle.grammar.proofs.laws.Reads.{read-sound}
-use Rattle.conversation.specs.Step.{of-message, blamed}
-use Rattle.conversation.specs.Conversation.{Sent, Event, said-by, forwarded-ones, blamed-first, nobody, Judgeable, refusal-of, Handled, Met, Watched, Early, BlamedEarly}
+use Rattle.conversation.specs.Step.{blamed}
+use Rattle.conversation.specs.Conversation.{Sent, Event, said-by, forwarded-ones, Judgeable, refusal-of, Handled, Met, Watched, Early, BlamedEarly}
 use Rattle.conversation.proofs.claims.DemandTwo.{demand-two}
 use Rattle.conversation.proofs.claims.EarlyBlamed.{early-blamed}
 use Rattle.types.specs.Types.{protocol-rules}
@@ -76,10 +74,7 @@ module _ {A B : Type 0} (R : A → B → Type 0) (ra : Rules A) (rb : Rules B) (
 
   refusal-same : refusal-of ra earlier a m ≡ refusal-of rb earlier b m
   unfolding refusal-of
-  refusal-same = ap₂ (λ s e. first-no ((10, nobody (blamed-first earlier)) ∷ (11, is-choice s) ∷ questions e s)) (g .sorted a b r) (g .editions)
-    where
-      questions : ℕ → Sort → List (ℕ × Bool)
-      questions e s = of-message e s (m .side) (m .bytes) (length (m .buffer))
+  refusal-same = rw (g .sorted a b r, listens-same)
 
 -- ---- and the other way round
 

@@ -10,8 +10,7 @@ use Prim.Native.Nat.{ℕ}
 use lib.ListN.{length}
 use mir.Syntax.{named}
 use mir.Val.{Val, vptr}
-use Rattle.conversation.specs.Batch.{batched}
-use Rattle.conversation.specs.Counts.{counted-batch}
+use Rattle.conversation.specs.Batch.{lent, batching, batched}
 use Rattle.conversation.specs.declared.State.{State}
 use Rattle.conversation.specs.declared.batch.Passed.{Passed}
 use Rattle.conversation.specs.declared.batch.Batched.{Batched}
@@ -87,14 +86,14 @@ module _ {M : Type 1} (𝓤 : URA M) (H : Heap 𝓤) (A : Atoms 𝓤) (W : Given
   Post = walkOf 𝓤 H A f.ended stayed (f.clauses 𝓤 H A at-mem run) .post bound
 
   -- what `advance`'s triple binds outside: the state at l is lent for the lifetime ν, under the name δ
-  abbrev lent : ℕ → GName → RefT State
-  lent l δ = record { ptr = (l, 0); name = δ; now = h }
+  abbrev lent-state : ℕ → GName → RefT State
+  lent-state l δ = record { ptr = (l, 0); name = δ; now = h }
 
   abbrev to-advance : ℕ → ℕ → GName → AdvanceC 𝓤 H A at-mem run .Ghost
-  to-advance ν l δ = (((κ₀, (ν ∷ [], (κ₁, (κ₂, (κ₃, (κ₄, (κ₅, tt))))))), (q₀, (fullShare, (q₁, (q₂, (q₃, (q₄, (q₅, tt))))))), tt, (t, (lent l δ, (c, (x, (w, (y, (z, tt))))))), (ptr-vals t, (vptr l 0 ∷ [], (ptr-vals c, (slice-vals x, (slice-vals w, (slice-vals y, (slice-vals z, tt)))))))), tt)
+  to-advance ν l δ = (((κ₀, (ν ∷ [], (κ₁, (κ₂, (κ₃, (κ₄, (κ₅, tt))))))), (q₀, (fullShare, (q₁, (q₂, (q₃, (q₄, (q₅, tt))))))), tt, (t, (lent-state l δ, (c, (x, (w, (y, (z, tt))))))), (ptr-vals t, (vptr l 0 ∷ [], (ptr-vals c, (slice-vals x, (slice-vals w, (slice-vals y, (slice-vals z, tt)))))))), tt)
 
   abbrev own-s : ℕ → ℕ → GName → Fml
-  own-s ν l δ = MutRef (named 1) (ν ∷ []) S.the-row .own (lent l δ) (vptr l 0 ∷ [])
+  own-s ν l δ = MutRef (named 1) (ν ∷ []) S.the-row .own (lent-state l δ) (vptr l 0 ∷ [])
 
   abbrev tokens : Item 𝓤
   tokens = ‵ (flft κ₀ q₀) ⊛ ‵ (flft κ₁ q₁) ⊛ ‵ (flft κ₂ q₂) ⊛ ‵ (flft κ₃ q₃) ⊛ ‵ (flft κ₄ q₄) ⊛ ‵ (flft κ₅ q₅) ⊛ ‵ ftrue
@@ -114,7 +113,7 @@ module _ {M : Type 1} (𝓤 : URA M) (H : Heap 𝓤) (A : Atoms 𝓤) (W : Given
 
   -- what `advance` ensures of its answer, the last state, the last counts and the last lists of the outputs
   abbrev Does : Batched → List ℕ → List ℕ → List ℕ → Type 0
-  Does r cs ys zs = (batched r ys zs, cs) ≡ counted-batch (t .now) h (c .now) (x .now) (w .now) (y .now) (z .now)
+  Does r cs ys zs = batched r cs ys zs ≡ batching (t .now) h (c .now) (lent (x .now) (w .now) (y .now) (z .now))
 
   -- what is had at exit
   abbrev Had : List ℕ → List ℕ → List ℕ → List (Item 𝓤)

@@ -93,14 +93,14 @@ module _ {M : Type 1} (𝓤 : URA M) (H : Heap 𝓤) (A : Atoms 𝓤) (W : Given
   Post = walkOf 𝓤 H A f.ended stayed (f.clauses 𝓤 H A at-mem run) .post bound
 
   -- what `advance`'s triple binds outside: the state at l is lent for the lifetime ν, under the name δ
-  abbrev lent : ℕ → GName → RefT State
-  lent l δ = record { ptr = (l, 0); name = δ; now = h }
+  abbrev lent-state : ℕ → GName → RefT State
+  lent-state l δ = record { ptr = (l, 0); name = δ; now = h }
 
   abbrev to-advance : ℕ → ℕ → GName → AdvanceC 𝓤 H A at-mem run .Ghost
-  to-advance ν l δ = (((κ₀, (ν ∷ [], (κ₁, (κ₂, (κ₃, tt))))), (q₀, (fullShare, (q₁, (q₂, (q₃, tt))))), tt, (t, (lent l δ, (c, (sd, (x, (y, tt)))))), (ptr-vals t, (vptr l 0 ∷ [], (ptr-vals c, (pvals sd, (slice-vals x, (slice-vals y, tt))))))), tt)
+  to-advance ν l δ = (((κ₀, (ν ∷ [], (κ₁, (κ₂, (κ₃, tt))))), (q₀, (fullShare, (q₁, (q₂, (q₃, tt))))), tt, (t, (lent-state l δ, (c, (sd, (x, (y, tt)))))), (ptr-vals t, (vptr l 0 ∷ [], (ptr-vals c, (pvals sd, (slice-vals x, (slice-vals y, tt))))))), tt)
 
   abbrev own-s : ℕ → ℕ → GName → Fml
-  own-s ν l δ = MutRef (named 1) (ν ∷ []) S.the-row .own (lent l δ) (vptr l 0 ∷ [])
+  own-s ν l δ = MutRef (named 1) (ν ∷ []) S.the-row .own (lent-state l δ) (vptr l 0 ∷ [])
 
   abbrev tokens : Item 𝓤
   tokens = ‵ (flft κ₀ q₀) ⊛ ‵ (flft κ₁ q₁) ⊛ ‵ (flft κ₂ q₂) ⊛ ‵ (flft κ₃ q₃) ⊛ ‵ ftrue

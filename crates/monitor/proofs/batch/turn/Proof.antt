@@ -1,48 +1,47 @@
 -- `monitor::batch::turn` meets its contract: one law for each return. Assumes nothing.
+use mathlib.Core.Path.{sym, ap, _∙_}
 use borrow.Author.Needs.{needs}
-use Rattle.conversation.specs.Batch.{last-of, batched}
-use Rattle.conversation.proofs.laws.Batch.{ended-turn, devices-turn, hosts-turn}
-use Rattle.monitor.proofs.laws.Led.{ended-counted, device-counted, host-counted}
+use Rattle.table.specs.declared.Party.the-variants.{Device, Host}
+use Rattle.conversation.specs.Batch.{at-side, lent, took, turn-of, last-of, batched}
+use Rattle.conversation.proofs.laws.Batch.{ended-turn, devices-turn, hosts-turn, turn-is}
 use Rattle.monitor.proofs.batch.turn.Statement.{statement}
 use Rattle.monitor.proofs.batch.turn.Tie as tie
 
 returns : tie.Need-returns
-unfolding batched last-of
+unfolding batched last-of turn-of
 returns c =
-    let s = c .before .before .before .before .before .before .before .before .before in
-    ended-counted _ _ _ _ _ 11 (ended-turn _ _ (s .pre .0 .sound) (s .pre .1) (c .if1 .taken))
+    let p = c .before .before .before .before .before .before .before .before .before .pre in
+    sym (turn-is _ _ _ _ (ended-turn _ _ (p .within .sound) (p .running) (c .if1 .taken)))
 
 take-requires : tie.Need-take-requires
-unfolding batched
+unfolding batched lent at-side
 take-requires c κs =
-    let s = c .before .before .before .before .before .before .before .before .before .before .before .before in
-    (devices-turn _ _ (s .pre .0 .sound) (s .pre .1) (c .before .before .before .if1 .left) (c .before .before .if2 .taken), s .pre .2, s .pre .0 .from-device)
+    let p = c .before .before .before .before .before .before .before .before .before .before .before .before .pre in
+    (devices-turn _ _ (p .within .sound) (p .running) (c .before .before .before .if1 .left) (c .before .before .if2 .taken), p .rising, p .within .inside Device)
 
 returns-2 : tie.Need-returns-2
-unfolding batched
+unfolding batched lent at-side turn-of
 returns-2 c =
     let s = c .before .before .before .before .before .before .before .before .before .before .before .before .before .before .before .before in
     let a = s .args in
-    let x = c .before .before .before .take .ensures in
-    device-counted (a .t .now) (a .device .now) (a .host .now) (batched (a .b) (a .to-device .now) (a .to-host .now)) (a .c .now)
-    (devices-turn _ _ (s .pre .0 .sound) (s .pre .1) (c .before .before .before .before .before .before .before .if1 .left) (c .before .before .before .before .before .before .if2 .taken)) _ (x .0)
-    _ (c .of-device .ensures (a .b .state) _ _ (a .to-host .now)) _ (x .1)
+    let b = batched (a .b) (a .c .now) (a .to-device .now) (a .to-host .now) in
+    c .of-device .ensures (a .b .state) (a .c .now) _ _ _ (a .to-host .now) ∙ ap (λ x. took Device x b) (c .before .before .before .take .ensures)
+    ∙ sym (turn-is _ _ b _ (devices-turn _ _ (s .pre .within .sound) (s .pre .running) (c .before .before .before .before .before .before .before .if1 .left) (c .before .before .before .before .before .before .if2 .taken)))
 
 take-requires-2 : tie.Need-take-requires-2
-unfolding batched
+unfolding batched lent at-side
 take-requires-2 c κs =
-    let s = c .before .before .before .before .before .before .before .before .before .before .before .before in
-    (hosts-turn _ _ (s .pre .0 .sound) (s .pre .1) (c .before .before .before .if1 .left) (c .before .before .if2 .left), s .pre .2, s .pre .0 .from-host)
+    let p = c .before .before .before .before .before .before .before .before .before .before .before .before .pre in
+    (hosts-turn _ _ (p .within .sound) (p .running) (c .before .before .before .if1 .left) (c .before .before .if2 .left), p .rising, p .within .inside Host)
 
 returns-3 : tie.Need-returns-3
-unfolding batched
+unfolding batched lent at-side turn-of
 returns-3 c =
     let s = c .before .before .before .before .before .before .before .before .before .before .before .before .before .before .before .before in
     let a = s .args in
-    let x = c .before .before .before .take2 .ensures in
-    host-counted (a .t .now) (a .device .now) (a .host .now) (batched (a .b) (a .to-device .now) (a .to-host .now)) (a .c .now)
-    (hosts-turn _ _ (s .pre .0 .sound) (s .pre .1) (c .before .before .before .before .before .before .before .if1 .left) (c .before .before .before .before .before .before .if2 .left)) _ (x .0)
-    _ (c .of-host .ensures (a .b .state) _ _ (a .to-device .now)) _ (x .1)
+    let b = batched (a .b) (a .c .now) (a .to-device .now) (a .to-host .now) in
+    c .of-host .ensures (a .b .state) (a .c .now) _ _ _ (a .to-device .now) ∙ ap (λ x. took Host x b) (c .before .before .before .take2 .ensures)
+    ∙ sym (turn-is _ _ b _ (hosts-turn _ _ (s .pre .within .sound) (s .pre .running) (c .before .before .before .before .before .before .before .if1 .left) (c .before .before .before .before .before .before .if2 .left)))
 
 pub turn-spec : {M : Type 1} → statement M
 turn-spec =

@@ -2,7 +2,7 @@
 use mathlib.Core.Path.{refl}
 use native.Mathlib.Omega.{arith}
 use borrow.Author.Needs.{needs}
-use Rattle.monitor.specs.inner.Lanes.{lane-of}
+use Rattle.conversation.specs.Batch.{lane-of}
 use Rattle.monitor.proofs.laws.PassedOn.{ahead-size, ahead-fits, passed-on}
 use Rattle.monitor.proofs.lane.pass.Statement.{statement}
 use Rattle.monitor.proofs.lane.pass.Tie as tie
@@ -26,7 +26,7 @@ returns-2 : tie.Need-returns-2
 returns-2 c =
     record {
       straight = λ h. absurd (omega (arith, h, c .if1 .left));
-      picked = λ h. absurd (omega (arith, h, c .if1 .left));
+      owned = λ h. absurd (omega (arith, h, c .if1 .left));
       within = λ h. absurd (omega (arith, h, c .if1 .left));
       stays = λ h. refl;
     }

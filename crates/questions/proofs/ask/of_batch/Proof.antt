@@ -5,19 +5,15 @@ use mathlib.Core.Bool.{true}
 use Rattle.table.specs.View.{sound-of}
 use borrow.Author.Tests.{not-true, not-false}
 use Rattle.conversation.specs.Counts.{counts-sound}
-use Rattle.conversation.proofs.laws.Step.{unsound, no-state, not-running, none-stops, nine-anyway, nine-first, nine-passed}
+use Rattle.conversation.proofs.laws.Step.{unsound, no-state, bad-counts, not-running, none-stops}
 use Rattle.questions.proofs.ask.of_batch.Statement.{statement}
 use Rattle.questions.proofs.ask.of_batch.Tie as tie
 
 returns : tie.Need-returns
-returns c =
-    let a = c .before .before .args in
-    sym (nine-anyway (counts-sound (a .t .now) (a .c .now)) (unsound (a .t .now) (a .s) (sym (c .before .sound .ensures) ∙ not-true _ (c .if1 .taken))))
+returns c = sym (unsound _ _ _ (sym (c .before .sound .ensures) ∙ not-true _ (c .if1 .taken)))
 
 returns-2 : tie.Need-returns-2
-returns-2 c =
-    let a = c .before .before .before .before .args in
-    sym (nine-anyway (counts-sound (a .t .now) (a .c .now)) (no-state (a .t .now) (a .s) (c .if2 .taken)))
+returns-2 c = sym (no-state _ _ _ (c .if2 .taken))
 
 -- the table is sound
 yes : (c : tie.Else1) → sound-of (c .before .before .args .t .now) ≡ true
@@ -27,17 +23,23 @@ sound-requires-2 : tie.Need-sound-requires-2
 sound-requires-2 c κs = yes (c .before .before)
 
 returns-3 : tie.Need-returns-3
-returns-3 c = sym (nine-first _ (sym (c .before .sound2 .ensures) ∙ not-true _ (c .if3 .taken)))
+returns-3 c = sym (bad-counts _ _ _ (sym (c .before .sound2 .ensures) ∙ not-true _ (c .if3 .taken)))
+
+-- and so are the counts
+counts-yes : (c : tie.Else3) → let a = c .before .before .before .before .before .before .args in counts-sound (a .t .now) (a .c .now) ≡ true
+counts-yes c = sym (c .before .sound2 .ensures) ∙ not-false _ (c .if3 .left)
 
 returns-4 : tie.Need-returns-4
 returns-4 c =
-    sym (nine-passed _ (sym (c .before .before .before .sound2 .ensures) ∙ not-false _ (c .before .before .if3 .left))
-    ∙ not-running _ _ (yes (c .before .before .before .before .before .before)) (c .before .before .before .before .if2 .left) (sym (c .before .is-running .ensures) ∙ not-true _ (c .if4 .taken)))
+    let b = c .before .before in
+    sym (not-running _ _ _ (yes (b .before .before .before .before)) (b .before .before .if2 .left) (counts-yes b)
+    (sym (c .before .is-running .ensures) ∙ not-true _ (c .if4 .taken)))
 
 returns-5 : tie.Need-returns-5
 returns-5 c =
-    sym (nine-passed _ (sym (c .before .before .before .sound2 .ensures) ∙ not-false _ (c .before .before .if3 .left))
-    ∙ none-stops _ _ (yes (c .before .before .before .before .before .before)) (c .before .before .before .before .if2 .left) (sym (c .before .is-running .ensures) ∙ not-false _ (c .if4 .left)))
+    let b = c .before .before in
+    sym (none-stops _ _ _ (yes (b .before .before .before .before)) (b .before .before .if2 .left) (counts-yes b)
+    (sym (c .before .is-running .ensures) ∙ not-false _ (c .if4 .left)))
 
 pub of-batch-spec : {M : Type 1} → statement M
 of-batch-spec =

@@ -10,7 +10,7 @@ returns c =
     let y = x .before .before .before .before .before .before in
     let z = y .before .before .before .before in
     let a = z .before .before .before .before .before .before .args in
-    batch-crossed _ _ (a .state .now) (a .counts .now) (a .device .now) (a .host .now) _ _ _ _ _ _ _ _ (z .state-in .ensures) (y .batch .ensures) (x .renew .ensures) (c .tell .ensures)
+    batch-crossed _ _ (a .state .now) (a .counts .now) _ _ _ _ _ _ _ (z .state-in .ensures) (y .batch .ensures) (x .renew .ensures) (c .tell .ensures)
 
 pub sojimu-raw-batch-spec : {M : Type 1} → statement M
 sojimu-raw-batch-spec =
