@@ -123,9 +123,9 @@ pub record TurnSays (r : Turn) (a : Awaited) : Type 0 where
   pub host : ((r .question ≡ 0) × (r .side ≡ 1)) ↔ (a ≡ of-side Host)
 
 -- of what waits on the side whose turn it is; nothing is due while it is nobody's
-pub record DueSays (r : Due) (a : Awaited) (device host : List ℕ) : Type 0 where
-  pub device : a ≡ of-side Device → (r .side ≡ 0) × (r .length ≡ first-length device)
-  pub host : a ≡ of-side Host → (r .side ≡ 1) × (r .length ≡ first-length host)
+pub record DueSays (r : Due) (a : Awaited) (waits-device waits-host : List ℕ) : Type 0 where
+  pub device : a ≡ of-side Device → (r .side ≡ 0) × (r .length ≡ first-length waits-device)
+  pub host : a ≡ of-side Host → (r .side ≡ 1) × (r .length ≡ first-length waits-host)
   pub nobody : (q : ℕ) → a ≡ D.refused q → r .length ≡ 0
 
 -- ---- every call after every list of calls
@@ -145,7 +145,7 @@ pub data RawSays (t : Words) (s : M.State) (c : Counts) : RawCall → RawGiven �
       → RawSays t s c (raw-step code message out) (step-gives r out)
   no-side : {code : ℕ} {side : Party} {message out : List ℕ} {r : Verdict} → 2 ≤ code → counted-turn t s c ≡ of-side side → VerdictSays r (refused 12)
       → RawSays t s c (raw-step code message out) (step-gives r out)
-  batches : {device host to-device to-host : List ℕ} {r : C.Batch} → let b = batching t s c (lent device host to-device to-host) in BatchSays r b
+  batches : {device host to-device to-host : List ℕ} {b : Batch} {r : C.Batch} → b ≡ batching t s c (lent device host to-device to-host) → BatchSays r b
       → RawSays t s c (raw-batch device host to-device to-host) (batch-gives r (b .lanes .host .output) (b .lanes .device .output))
   turns : {r : Turn} → TurnSays r (counted-turn t s c) → RawSays t s c raw-turn (turn-gives r)
   dues : {device host : List ℕ} {r : Due} → DueSays r (counted-turn t s c) device host → RawSays t s c (raw-due device host) (due-gives r)
