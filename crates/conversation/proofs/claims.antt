@@ -1,6 +1,7 @@
 -- The proofs of what specs/ states, each file named for a statement.
 pub mod BatchInTwo
 pub mod BatchSingly
+pub mod CallsWatched
 pub mod CountsSoundExactly
 pub mod CountsTally
 pub mod DemandTwo

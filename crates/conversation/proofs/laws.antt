@@ -5,6 +5,7 @@ pub mod Conversation
 pub mod Counts
 pub mod Due
 pub mod Onto
+pub mod Programs
 pub mod Singles
 pub mod Step
 pub mod Tallied

@@ -73,9 +73,12 @@ pub data CallsDone (t : Words) : State → Counts → List Call → List Given �
 
 -- ---- demand 2 of programs
 
--- of a conversation that is started with the setting z
+-- of a conversation that is started with the setting z: its calls; and the steps that they come to
 abbrev pub run-from : Words → ℕ → List Call → Run
 run-from t z calls = program t (starting t z .state) (starting t z .counts) calls
+
+abbrev pub CallsFrom : Words → ℕ → List Call → List Event → Type 0
+CallsFrom t z calls events = CallsDone t (starting t z .state) (starting t z .counts) calls (run-from t z calls .gives) events
 
 abbrev pub messages-of : List Event → List Sent
 messages-of events = map (λ (e : Event). e .sent) events
@@ -90,7 +93,7 @@ awaited-by rules a none = sender-awaited (turn rules a)
 pub record WatchedCalls {A : Type 0} (rules : Rules A) (t : Words) (z : ℕ) (calls : List Call) : Type 0 where
   pub starts : starting t z .question ≡ 0
   pub events : List Event
-  pub answers : CallsDone t (starting t z .state) (starting t z .counts) calls (run-from t z calls .gives) events
+  pub answers : CallsFrom t z calls events
   pub conversing : conversation t (messages-of events) ≡ events
   pub watched : Watched rules t (messages-of events)
   pub awaits : (a : A) → led rules (forwarded-ones events) ≡ some a

@@ -12,10 +12,12 @@ use Rattle.grammar.specs.Grammar.{Protocol}
 use Rattle.grammar.specs.Reading.{reads}
 use Rattle.spelling.specs.TextOf.{TextOf}
 use Rattle.types.specs.Types.{protocol-rules}
-use Rattle.conversation.specs.Conversation.{Sent, Watched, BlamedEarly}
+use Rattle.conversation.specs.Conversation.{Sent, Event, Watched, BlamedEarly}
+use Rattle.conversation.specs.Programs.{Call, CallsFrom, messages-of, WatchedCalls}
 use Rattle.machine.specs.Machine.{Safe, Unsafe}
 use Rattle.machine.specs.Answer.{Answer, fits, fails, Answered, FewestMoves}
-use Rattle.together.specs.Unblamed.{Keeps, Unblamed}
+use Rattle.together.specs.Unblamed.{Keeps, UnblamedBy}
+use Rattle.codes.specs.RawPrograms.{RawCall, WatchedRaw}
 use Rattle.report.specs.Report.{fit, no-fit, Reported, ShowsFewest}
 
 -- a text is read exactly when it is one of some protocol (into which table: spelling/specs/TextTheorems.antt, ReadExactly), and of one only
@@ -28,6 +30,19 @@ OneProtocol = (s : List ℕ) (p q : Protocol) → TextOf s p → TextOf s q → 
 -- demand 2: in every conversation each message is met in its place, by the rules of the type under its edition
 abbrev pub DemandTwoOfTexts : Type 0
 DemandTwoOfTexts = (s : List ℕ) (p : Protocol) → TextOf s p → (sent : List Sent) → Watched (protocol-rules p) (reads s .table) sent
+
+-- and so for a program that starts a conversation, with any setting from 1 to 1000, and calls `step`, `advance`, `batch` and `batch::advance` in
+-- any order: it is not refused, all that is sent is one such conversation, and the counts are those of its messages
+abbrev pub CallsOfTexts : Type 0
+CallsOfTexts =
+    (s : List ℕ) (p : Protocol) → TextOf s p → (z : ℕ) → 1 ≤ z → z ≤ 1000 → (calls : List Call)
+    → WatchedCalls (protocol-rules p) (reads s .table) z calls
+
+-- and so for a program in C or Rust, with the numbers that cross
+abbrev pub RawOfTexts : Type 0
+RawOfTexts =
+    (s : List ℕ) (p : Protocol) → TextOf s p → (z : ℕ) → 1 ≤ z → z ≤ 1000 → (raws : List RawCall)
+    → WatchedRaw (protocol-rules p) (reads s .table) z raws
 
 -- in every conversation a sender is blamed with reason 4 exactly when its message is early, under edition 2
 abbrev pub EarlyOfTexts : Type 0
@@ -78,9 +93,10 @@ ReportsFewestOfTexts =
     → (report : List ℕ) → Reported protocol device report
     → ShowsFewest (protocol-rules d) (protocol-rules p) (view (reads device .table)) (view (reads protocol .table)) report
 
--- a device that fits and says only what its description says is never blamed; and every message of the host's that is forwarded is one
--- that the description takes there
+-- a device that fits and says only what its description says is never blamed, by whatever calls its messages are taken; and every message of the
+-- host's that is forwarded is one that the description takes there
 abbrev pub UnblamedOfTexts : Type 0
 UnblamedOfTexts =
     (protocol device : List ℕ) (p d : Protocol) → TextOf protocol p → TextOf device d → Safe (protocol-rules d) (protocol-rules p)
-    → (sent : List Sent) → Keeps (protocol-rules d) (reads protocol .table) sent → Unblamed (protocol-rules d) (reads protocol .table) sent
+    → (z : ℕ) → 1 ≤ z → z ≤ 1000 → (calls : List Call) (events : List Event) → let t = reads protocol .table in CallsFrom t z calls events
+    → Keeps (protocol-rules d) t (messages-of events) → UnblamedBy (protocol-rules d) t z calls events

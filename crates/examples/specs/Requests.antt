@@ -1,21 +1,23 @@
 -- Document 02's examples, as checked lists, a list for each request that gives some.
 -- Assumes nothing.
 use mathlib.Core.Path.{_≡_}
-use mathlib.Core.Bool.{true}
-use mathlib.Core.List.{List, [], _∷_}
-use mathlib.Core.Option.{none}
+use mathlib.Core.Bool.{true, false}
+use mathlib.Core.List.{List, [], _∷_, _++_}
+use mathlib.Core.Option.{none, some}
 use Prim.Native.Nat.{ℕ, _≤_, _<_}
 use Prim.Native.String.{String}
-use lib.ListN.{length}
+use lib.ListN.{length, replicate}
 use Rattle.table.specs.View.{Words, view, sound-of}
 use Rattle.table.specs.declared.Party.the-variants.{Device, Host}
 use Rattle.message.specs.Message.{refusal}
 use Rattle.message.specs.Make.{opening}
 use Rattle.conversation.specs.declared.Standing.the-variants.{Running, HostBlamed}
-use Rattle.conversation.specs.Step.{refused, blamed, forwarded, fresh, stepping}
-use Rattle.conversation.specs.Warning.{WarningExamples}
-use Rattle.examples.specs.Twelve.{Reads, RefusedAt, table, ask, ok, gives}
+use Rattle.conversation.specs.Step.{refused, blamed, forwarded, fresh}
+use Rattle.conversation.specs.Counts.{Counts}
+use Rattle.conversation.specs.Warning.{Notice, tells, warning, WarningExamples}
+use Rattle.examples.specs.Twelve.{Reads, RefusedAt, table, ask, ok, gives, first-step, P-counts}
 use Rattle.table.specs.Table as T
+use Rattle.conversation.specs.Warning as W
 
 -- ---- request 1: names straight after rec
 
@@ -68,6 +70,40 @@ pub record SharesRead : Type 0 where
   pub no-number : RefusedAt "+{!A()@05.end}" 2 7
   pub warnings : WarningExamples
 
+-- with a half for either, and without shares
+abbrev pub halves-text : String
+halves-text = "+{!A()@500.end,!B()@500.end}"
+
+abbrev pub unshared-text : String
+unshared-text = "+{!A().end,!B().end}"
+
+-- counts under them: the setting, n of state 0, k of A and B
+abbrev pub two-counts : ℕ → ℕ → ℕ → ℕ → Counts
+two-counts z n a b = z ∷ n ∷ (replicate 31 0 ++ (a ∷ b ∷ replicate 126 0))
+
+-- what the call tells of a branch, the state being fresh
+abbrev pub noticed : String → Counts → ℕ → Notice
+noticed s c b = warning (table s) fresh c b
+
+pub record SharesWarn : Type 0 where
+  -- with n = 6, k = 2, w = 10, z = 442 it warns, and so does the other; 2,000 / 6 is 333.3, and 4,000 / 6 is 666.7
+  pub example : (noticed shared-text (two-counts 442 6 2 4) 0 ≡ tells true (some Device) (some 333))
+      × (noticed shared-text (two-counts 442 6 2 4) 1 ≡ tells true (some Device) (some 667))
+  -- at the edge neither warns, the one picked too often and the one too seldom: 10,000 x 2,000^2 = 200^2 x 500 x 500 x 4
+  pub edge : (noticed halves-text (two-counts 200 4 4 0) 0 ≡ tells false (some Device) (some 1000))
+      × (noticed halves-text (two-counts 200 4 4 0) 1 ≡ tells false (some Device) (some 0))
+  -- a hundredth nearer both do
+  pub past-edge : (noticed halves-text (two-counts 199 4 4 0) 0 ≡ tells true (some Device) (some 1000))
+      × (noticed halves-text (two-counts 199 4 4 0) 1 ≡ tells true (some Device) (some 0))
+  -- while n is 0 there is no estimate, and none warns
+  pub none-yet : noticed halves-text (two-counts 1 0 0 0) 0 ≡ tells false (some Device) none
+  -- a branch without a share never warns
+  pub never : (noticed unshared-text (two-counts 1 10000 10000 0) 0 ≡ tells false (some Device) (some 1000))
+      × (noticed unshared-text (two-counts 1 10000 10000 0) 1 ≡ tells false (some Device) (some 0))
+  -- 18: it has branches 0 and 1. 9 first: 2 and 3 do not add up to 6
+  pub no-branch : noticed shared-text (two-counts 442 6 2 4) 2 ≡ W.refused 18
+  pub no-sum : noticed shared-text (two-counts 442 6 2 3) 2 ≡ W.refused 9
+
 -- ---- request 6: texts must be UTF-8
 
 -- `Grade` with two texts, of m and n bytes
@@ -119,9 +155,11 @@ pub record EditionsRead : Type 0 where
 pub record EarlyOk : Type 0 where
   pub reads-Q : Reads Q-text
   -- it blames the host with reason 4, though no branch there has the label
-  pub early : (out : List ℕ) → 9 ≤ length out → stepping Q fresh Host ok out ≡ gives (blamed Host 4 none) 0 HostBlamed out
+  pub early : (out : List ℕ) → 9 ≤ length out
+      → first-step Q Host ok out ≡ (gives (blamed Host 4 none) 0 HostBlamed out, P-counts 442 0 0 0 0 0)
   -- without room it is refused by 16, broken by the message's question
-  pub no-room : (out : List ℕ) → length out < 9 → stepping Q fresh Host ok out ≡ gives (refused 16) 0 Running out
-  pub broken : (out : List ℕ) → stepping Q fresh Host [] out ≡ gives (refused 13) 0 Running out
+  pub no-room : (out : List ℕ) → length out < 9 → first-step Q Host ok out ≡ (gives (refused 16) 0 Running out, P-counts 442 0 0 0 0 0)
+  pub broken : (out : List ℕ) → first-step Q Host [] out ≡ (gives (refused 13) 0 Running out, P-counts 442 0 0 0 0 0)
   -- what comes in turn is forwarded as under P
-  pub in-turn : (out : List ℕ) → 14 ≤ length out → stepping Q fresh Device (ask 100) out ≡ gives forwarded 1 Running (opening (ask 100) out)
+  pub in-turn : (out : List ℕ) → 14 ≤ length out
+      → first-step Q Device (ask 100) out ≡ (gives forwarded 1 Running (opening (ask 100) out), P-counts 442 1 0 1 0 0)

@@ -4,5 +4,6 @@ pub mod EditionUnseen
 pub mod EndsUnmoved
 pub mod FitEditionUnseen
 pub mod FitFewest
+pub mod FitRefused
 pub mod FitsItself
 pub mod OneCount

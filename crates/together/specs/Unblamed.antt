@@ -12,8 +12,7 @@ use Rattle.table.specs.declared.Party.the-variants.{Device}
 use Rattle.message.specs.Rules.{Rules, table-rules, next, led}
 use Rattle.conversation.specs.Step.{Told, blamed}
 use Rattle.conversation.specs.Conversation.{Sent, Event, conversation, said-by, forwarded-ones, blamed-first, Judgeable}
-use Rattle.conversation.specs.Counts.{starting}
-use Rattle.conversation.specs.Programs.{Call, Given, by-step, by-batch, CallsDone, run-from, messages-of}
+use Rattle.conversation.specs.Programs.{Call, Given, by-step, by-batch, run-from, CallsFrom, messages-of}
 use Rattle.machine.specs.Machine.{Safe}
 
 module _ {D : Type 0} (d : Rules D) (p : Words) where
@@ -47,13 +46,17 @@ NoneBlames answers =
     (earlier : List Given) (g : Given) (later : List Given) → answers ≡ earlier ++ (g ∷ later)
     → (r : ℕ) (f : Option ℕ) → told-last g ≡ some (blamed Device r f) → ⊥
 
--- and so of programs: of every list of calls of a conversation that is started with a setting from 1 to 1000, and the steps that they come to
+-- of calls of a conversation that is started with the setting z, and the steps that they come to
+pub record UnblamedBy {D : Type 0} (d : Rules D) (p : Words) (z : ℕ) (calls : List Call) (events : List Event) : Type 0 where
+  pub unblamed : Unblamed d p (messages-of events)
+  pub none-blames : NoneBlames (run-from p z calls .gives)
+
+-- and so of programs: of all calls, in any order, with every setting from 1 to 1000
 abbrev pub CallsUnblamed : Type 1
 CallsUnblamed =
     (D : Type 0) (d : Rules D) (p : Words) → sound-of p ≡ true → Safe d (table-rules (view p)) → (z : ℕ) → 1 ≤ z → z ≤ 1000
-    → (calls : List Call) (events : List Event)
-    → CallsDone p (starting p z .state) (starting p z .counts) calls (run-from p z calls .gives) events
-    → Keeps d p (messages-of events) → Unblamed d p (messages-of events) × NoneBlames (run-from p z calls .gives)
+    → (calls : List Call) (events : List Event) → CallsFrom p z calls events
+    → Keeps d p (messages-of events) → UnblamedBy d p z calls events
 
 -- a device whose description is the protocol itself keeps to it exactly in the conversations in which it is not blamed
 abbrev pub KeepsExactly : Type 0

@@ -8,7 +8,7 @@ use mathlib.Core.Option.{Option, none, some}
 use Prim.Native.Nat.{ℕ, zero, suc, _<_}
 use native.Mathlib.Omega.{arith}
 use lib.ListN.{length}
-use lib.Dec.{ltb, eqb}
+use lib.Dec.{eqb}
 use borrow.Author.Tests.{lt-ltb}
 use Rattle.table.specs.Lists.{upto, first-no}
 use Rattle.table.specs.View.{Words, view, branch-at, sound-of, sound-at, states-of, branches-of}
@@ -92,6 +92,11 @@ blamed-append (e ∷ r) b = ap (blamed-else (e .done .verdict)) (blamed-append r
 pub blamed-for-good : (a b : List Event) (side : Party) → blamed-first a ≡ some side → blamed-first (a ++ b) ≡ some side
 unfolding or-else
 blamed-for-good a b side h = blamed-append a b ∙ ap (λ o. or-else o (blamed-first b)) h
+
+-- where nobody is blamed before
+pub blamed-once : (a : List Event) (e : Event) → blamed-first a ≡ none → blamed-first (a ++ (e ∷ [])) ≡ blamed-first (e ∷ [])
+unfolding or-else
+blamed-once a e h = blamed-append a (e ∷ []) ∙ ap (λ o. or-else o (blamed-first (e ∷ []))) h
 
 -- ---- the state that messages lead to is one of the table's
 
@@ -275,6 +280,18 @@ pub record Right (t : Words) (past : List Event) (e : Event) : Type 0 where
   pub before : Stands t past (e .met)
   pub after : Stands t (past ++ (e ∷ [])) (e .done .state)
 
+-- 9 gets a yes
+pub stands-sound : (t : Words) → sound-of t ≡ true → (past : List Event) (s : State) → Stands t past s → sound-at t (s .position) ≡ true
+unfolding sound-at
+stands-sound t sound past s at =
+    let f = sound-facts t sound in
+    let l = leads-state t f 0 (forwarded-ones past) (s .position) (omega (arith, f .some)) (at .position) in
+    join sound (lt-ltb (s .position) (states-of t) l)
+
+pub stands-fresh : (t : Words) → Stands t [] fresh
+unfolding fresh forwarded-ones blamed-first leads standing-by
+stands-fresh t = record { position = refl; standing = refl }
+
 module _ (t : Words) (sound : sound-of t ≡ true) (past : List Event) (s : State) (at : Stands t past s) (m : Sent) where
   abbrev rules : Rules ℕ
   rules = table-rules (view t)
@@ -286,16 +303,9 @@ module _ (t : Words) (sound : sound-of t ≡ true) (past : List Event) (s : Stat
   asking = first-no (step-questions t s (m .side) (m .bytes) (length (m .buffer)))
 
   asked-is : asking ≡ refusal-of rules past (s .position) m
-  unfolding step-questions of-state of-message first-no sound-at
-  asked-is = rw (known, ap is-running (at .standing) ∙ running-by (blamed-first past)) (sym (refusal-is rules past (s .position) m))
-    where
-      f : Facts t
-      f = sound-facts t sound
-
-      known : (sound-of t && ltb (s .position) (states-of t)) ≡ true
-      known =
-          let l = leads-state t f 0 (forwarded-ones past) (s .position) (omega (arith, f .some)) (at .position) in
-          join sound (lt-ltb (s .position) (states-of t) l)
+  unfolding step-questions of-state of-message first-no
+  asked-is =
+      rw (stands-sound t sound past s at, ap is-running (at .standing) ∙ running-by (blamed-first past)) (sym (refusal-is rules past (s .position) m))
 
   judgeable : asking ≡ 0 → Judgeable rules past (s .position) m
   judgeable e = none-judgeable rules past (s .position) m (sym asked-is ∙ e)
@@ -480,8 +490,17 @@ module _ (t : List ℕ) (sound : sound-of t ≡ true) where
 
   pub each-right : (sent : List Sent) (earlier : List Event) (e : Event) (later : List Event) → conversation t sent ≡ earlier ++ (e ∷ later)
       → Right t earlier e
-  unfolding conversation fresh forwarded-ones blamed-first leads standing-by
-  each-right sent earlier e later h = in-place [] fresh (record { position = refl; standing = refl }) sent earlier e later h
+  unfolding conversation
+  each-right sent earlier e later h = in-place [] fresh (stands-fresh t) sent earlier e later h
+
+  -- who is blamed in a conversation is blamed first
+  pub blamed-there : (sent : List Sent) (earlier : List Event) (e : Event) (later : List Event) → conversation t sent ≡ earlier ++ (e ∷ later)
+      → (side : Party) (r : ℕ) (f : Option ℕ) → e .done .verdict ≡ blamed side r f → blamed-first (conversation t sent) ≡ some side
+  unfolding blamed-first blamed-else
+  blamed-there sent earlier e later h side r f v =
+      let free = each-right sent earlier e later h .met .handled .blames side r f .0 v .0 .unblamed in
+      ap blamed-first (h ∙ sym (append-assoc earlier (e ∷ []) later))
+      ∙ blamed-for-good (earlier ++ (e ∷ [])) later side (blamed-once earlier e free ∙ rw v)
 
 -- ---- events one behind the other
 
@@ -503,3 +522,14 @@ module _ (t : Words) where
   played-append s (e ∷ r) b p q =
       let h = cons-eq p in
       played-cons s e (r ++ b) (h .0) (played-append (e .done .state) r b (played-at (h .0) (h .1)) q)
+
+  -- and the state then is what verdicts and type say
+  pub played-stands : sound-of t ≡ true → (past : List Event) (s : State) → Stands t past s → (events : List Event) → Played s events
+      → Stands t (past ++ events) (state-after s events)
+  unfolding played state-after
+  played-stands sound past s at [] p = subst (λ (l : List Event). Stands t l s) (sym (append-nil past)) at
+  played-stands sound past s at (e ∷ r) p =
+      let h = cons-eq p in
+      let here = subst (Right t past) (h .0) (right-here t sound past s at (e .sent)) in
+      subst (λ (l : List Event). Stands t l (state-after (e .done .state) r)) (append-assoc past (e ∷ []) r)
+      (played-stands sound (past ++ (e ∷ [])) (e .done .state) (here .after) r (played-at (h .0) (h .1)))

@@ -20,7 +20,8 @@ use Rattle.utf8.specs.Utf8.{octets, is-utf8}
 use Rattle.message.specs.Judge.{same-kind, in-range, holds, names, carries, goes, allows}
 use Rattle.message.specs.Make.{opening}
 use Rattle.message.specs.Rules.{Rules, table-rules}
-use Rattle.table.specs.declared.Party.the-variants.{Device}
+use Rattle.table.specs.declared.Party.the-variants.{Device, Host}
+use Rattle.conversation.specs.declared.Standing.the-variants.{Running, DeviceBlamed}
 use Rattle.machine.specs.Machine.{jammed, Move, from-device, by-side, effect, arrived, fresh-machine, while-running, does, after, move, moves, play, run, is-forward, all-forwarded, bad, Fewest}
 use Rattle.machine.specs.Fit.{both-are, right, Reachable, Fits, pairs, Count, shown, of-speakers, shown-moves, but-last, last-count, field-named}
 use Rattle.machine.specs.Answer.{Answer, refused, fits, fails, fit-questions, Answered}
@@ -28,9 +29,10 @@ use Rattle.machine.proofs.laws.Safe.{fits-safe}
 use Rattle.machine.proofs.claims.OneCount.{one-count}
 use Rattle.machine.proofs.claims.FitsItself.{fits-itself}
 use Rattle.machine.proofs.laws.Itself.{reachable-itself}
-use Rattle.examples.specs.Twelve.{P, E, ask, Answers, Twelve}
+use Rattle.examples.specs.Twelve.{P, E, ask, ok, Answers, Twelve}
 use Rattle.table.specs.Table as T
-use Rattle.examples.proofs.laws.StepsOfP.{asks-100, asks-101, ok-first}
+use Rattle.examples.proofs.laws.StepsOfP.{asks-by, asks-100, asks-101, ok-first}
+use Rattle.examples.proofs.laws.FirstStep.{first-refused, first-blamed, first-forwarded}
 use Rattle.examples.proofs.laws.TablesRead as R
 
 -- ---- the fit check
@@ -159,6 +161,8 @@ end-against-P list after r room =
 
 pub twelve : Twelve
 twelve =
+    let P-states = R.read .P-reads .1 in
+    let P-view = R.read .P-view in
     record {
       end-reads = R.read .end-reads;
       empty-text = R.read .empty-text;
@@ -167,9 +171,15 @@ twelve =
       label-twice = R.read .label-twice;
       range-empty = R.read .range-empty;
       range-of-one = R.read .range-of-one;
-      ask-100 = (R.read .P-reads .0, asks-100 P 1 R.P-sound (R.read .P-reads .1) (R.read .P-view));
-      ask-101 = asks-101 P 1 R.P-sound (R.read .P-reads .1) (R.read .P-view);
-      ok-first = ok-first P R.P-sound (R.read .P-reads .1) (R.read .P-view);
+      ask-100 = (
+        R.read .P-reads .0,
+        λ out room.
+            first-forwarded P R.P-sound Device (ask 100) out 1 Running (opening (ask 100) out) (asks-by P 1 R.P-sound P-states P-view)
+            (asks-100 P 1 R.P-sound P-states P-view out room),
+      );
+      ask-101 = λ out room.
+          first-blamed P R.P-sound Device (ask 101) out Device 3 (some 0) 0 DeviceBlamed (asks-101 P 1 R.P-sound P-states P-view out room);
+      ok-first = λ out. first-refused P R.P-sound Host ok out 12 0 Running (ok-first P R.P-sound P-states P-view out);
       P-fits-P = P-fits-P;
       end-jams = (end-against-P, E-jams);
     }

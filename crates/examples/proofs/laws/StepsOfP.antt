@@ -14,7 +14,7 @@ use Rattle.table.specs.View.{Words, states-of, view, sound-of, sound-at}
 use Rattle.table.proofs.laws.Lists.{join}
 use Rattle.utf8.specs.Utf8.{octets, is-utf8}
 use Rattle.message.specs.Message.{number-of, first-number, pair-up, count-of, values-of, read, text-bytes, announced, whole, legal-value, cut-up, texts-of, legal-values, exact, legal-texts, refusal}
-use Rattle.message.specs.Judge.{same-kind, in-range, names, Judgement, allowed, forbidden, first-outside, by-range, by-fields, judge-among, judge}
+use Rattle.message.specs.Judge.{same-kind, in-range, holds, names, carries, selected-from, selected, Judgement, allowed, forbidden, first-outside, by-range, by-fields, judge-among, judge}
 use Rattle.message.specs.Make.{opening}
 use Rattle.message.specs.Rules.{table-rules, judge-said}
 use Rattle.table.specs.declared.Party.{Party}
@@ -55,6 +55,11 @@ module _ (t : Words) (e : ℕ) (sound : sound-of t ≡ true) (states : states-of
   turned-away : (side : Party) (message out : List ℕ) (q : ℕ) → first-no (S.of-message e sends side message (length out)) ≡ q → (q ≡ 0 → ⊥)
       → S.stepping t S.fresh side message out ≡ S.refusing q S.fresh out
   turned-away side message out q h n = refused-step t S.fresh side message out q (P-asked side message (length out) ∙ h) n
+
+  -- Ask 100 takes branch 0
+  pub asks-by : selected (view t) 0 (read (ask 100)) ≡ some 0
+  unfolding selected selected-from carries holds names matched same same-kind in-range number-of first-number pair-up count-of values-of read
+  asks-by = ap (λ t. selected t 0 (read (ask 100))) seen
 
   pub asks-100 : (out : List ℕ) → 14 ≤ length out
       → S.stepping t S.fresh Device (ask 100) out ≡ gives S.forwarded 1 Running (opening (ask 100) out)

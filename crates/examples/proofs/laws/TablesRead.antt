@@ -4,8 +4,9 @@ use mathlib.Core.Path.{_≡_, refl}
 use mathlib.Core.Bool.{true}
 use mathlib.Core.List.{[], _∷_}
 use Prim.Native.Nat.{ℕ}
+use Prim.Native.String.{String}
 use Rattle.table.specs.Lists.{every, some-one, matched, same, upto, sum-of, first-no}
-use Rattle.table.specs.View.{states-of, label-of, sort-of, view, sound-of, empty-table}
+use Rattle.table.specs.View.{states-of, branches-of, owner-at, share-at, label-of, sort-of, view, sound-of, empty-table}
 use Rattle.grammar.specs.inner.Scanner.{class-of, run-of, run-end, word-kind, word-token, name-token, number-kind, number-token, dots-token, begin-at, token-at, tokens-from, tokens}
 use Rattle.grammar.specs.Token.{packed, word-of}
 use Rattle.grammar.specs.Number.{value-of, signed-of, offset, in-kind, in-count}
@@ -14,8 +15,8 @@ use Rattle.grammar.specs.Filled.{filled, refused}
 use Rattle.grammar.specs.Reading.{meaning, unguarded, closed, token-formed, grammar-allows, edition-known, name-bound, guarded, ranged, share-ranged, new-label, within, shares-add, sign-of, choice-sort, kind-of, target, stored, began, taken, run-tokens, built, reads, questions}
 use Rattle.table.specs.Ascii.{ascii}
 use Rattle.grammar.proofs.laws.Reads.{read-sound}
-use Rattle.examples.specs.Twelve.{P, E, P-text, Reads, RefusedAt}
-use Rattle.examples.specs.Requests.{NamesAfterRec, ReadsAs, shared-text, A-or-B, end-under, Q-text, Q, EditionsRead}
+use Rattle.examples.specs.Twelve.{P, E, P-text, Reads, RefusedAt, table}
+use Rattle.examples.specs.Requests.{NamesAfterRec, shared-text, A-or-B, halves-text, unshared-text, end-under, Q-text, Q, EditionsRead}
 use Rattle.table.specs.Table as T
 
 -- P under an edition
@@ -43,6 +44,15 @@ P-seen = P-under 1
 abbrev pub E-seen : T.Table
 E-seen = end-under 1
 
+-- a text of one choice with two branches, which have these shares
+pub record Shared (s : String) (a b : ℕ) : Type 0 where
+  pub is-read : Reads s
+  pub seen : view (table s) ≡ record { sorts = A-or-B .sorts; branches = A-or-B .branches; shares = a ∷ b ∷ []; edition = 1 }
+  pub states : states-of (table s) ≡ 3
+  pub branches : branches-of (table s) ≡ 2
+  pub owners : (owner-at (table s) 0 ≡ 0) × (owner-at (table s) 1 ≡ 0)
+  pub shares : (share-at (table s) 0 ≡ a) × (share-at (table s) 1 ≡ b)
+
 -- what the texts give
 pub record Read : Type 0 where
   pub end-reads : Reads "end" × (states-of E ≡ 1)
@@ -56,7 +66,9 @@ pub record Read : Type 0 where
   pub P-view : view P ≡ P-seen
   pub E-view : view E ≡ E-seen
   pub names-after-rec : NamesAfterRec
-  pub with-shares : ReadsAs shared-text A-or-B
+  pub shared : Shared shared-text 10 990
+  pub halves : Shared halves-text 500 500
+  pub unshared : Shared unshared-text 0 0
   pub no-sum : RefusedAt "+{!A()@999.end}" 20 14
   pub mixed : RefusedAt "+{!A()@1000.end,!B().end}" 20 24
   pub no-share : RefusedAt "+{!A()@0.end}" 19 7
@@ -88,7 +100,9 @@ read =
             own-binder = refl;
             four-first = refl;
           };
-      with-shares = (refl, refl);
+      shared = record { is-read = refl; seen = refl; states = refl; branches = refl; owners = (refl, refl); shares = (refl, refl) };
+      halves = record { is-read = refl; seen = refl; states = refl; branches = refl; owners = (refl, refl); shares = (refl, refl) };
+      unshared = record { is-read = refl; seen = refl; states = refl; branches = refl; owners = (refl, refl); shares = (refl, refl) };
       no-sum = refl;
       mixed = refl;
       no-share = refl;

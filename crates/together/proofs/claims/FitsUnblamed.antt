@@ -17,7 +17,7 @@ use Rattle.message.specs.Message.{read, well-formed}
 use Rattle.message.specs.Rules.{Rules, table-rules, Said, turn, next, leads, led}
 use Rattle.message.proofs.laws.Judge.{none-some, some-eq}
 use Rattle.conversation.specs.Step.{Told, refused, blamed, forwarded}
-use Rattle.conversation.proofs.laws.Conversation.{or-else, blamed-append, blamed-for-good, forwarded-append, leads-more}
+use Rattle.conversation.proofs.laws.Conversation.{blamed-for-good, blamed-once, forwarded-append, leads-more}
 use Rattle.conversation.proofs.claims.DemandTwo.{demand-two}
 use Rattle.machine.proofs.laws.Reachable.{moves-append}
 use Rattle.conversation.specs.Conversation.{Sent, Event, conversation, said-by, is-forwarded, forwarded-ones, blamed-else, blamed-first, Judgeable, Met, WatchedTable}
@@ -25,11 +25,6 @@ use Rattle.machine.specs.Machine.{Standing, running, device-blamed, jammed, Mac
 use Rattle.together.specs.Unblamed.{FitsUnblamed}
 
 -- ---- lists in a row
-
--- who is blamed first, where nobody is blamed before; and once somebody is
-blamed-once : (a : List Event) (e : Event) → blamed-first a ≡ none → blamed-first (a ++ (e ∷ [])) ≡ blamed-first (e ∷ [])
-unfolding or-else
-blamed-once a e h = blamed-append a (e ∷ []) ∙ ap (λ o. or-else o (blamed-first (e ∷ []))) h
 
 module _ {D P : Type 0} (d : Rules D) (p : Rules P) where
   play-append : (m : Machine D P) (vs ws : List Move) → play d p m (vs ++ ws) ≡ play d p (play d p m vs) ws
