@@ -1,4 +1,6 @@
 -- The proofs of what specs/ states, each file named for a statement.
 pub mod Edges
+pub mod MessageExamples
 pub mod Requests
+pub mod TableExamples
 pub mod Twelve

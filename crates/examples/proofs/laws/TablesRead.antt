@@ -2,8 +2,6 @@
 -- Assumes nothing.
 use mathlib.Core.Path.{_≡_, refl}
 use mathlib.Core.Bool.{true}
-use mathlib.Core.List.{[], _∷_}
-use Prim.Native.Nat.{ℕ}
 use Rattle.table.specs.Lists.{every, some-one, matched, same, upto, sum-of, first-no}
 use Rattle.table.specs.View.{states-of, label-of, sort-of, view, sound-of, empty-table}
 use Rattle.grammar.specs.inner.Scanner.{class-of, run-of, run-end, word-kind, word-token, name-token, number-kind, number-token, dots-token, begin-at, token-at, tokens-from, tokens}
@@ -15,33 +13,9 @@ use Rattle.grammar.specs.Reading.{meaning, unguarded, closed, token-formed, gra
 use Rattle.table.specs.Ascii.{ascii}
 use Rattle.grammar.proofs.laws.Reads.{read-sound}
 use Rattle.examples.specs.Twelve.{P, E, P-text, Reads, RefusedAt}
-use Rattle.examples.specs.Requests.{NamesAfterRec, ReadsAs, shared-text, A-or-B, end-under, Q-text, Q, EditionsRead}
+use Rattle.examples.specs.Requests.{NamesAfterRec, ReadsAs, shared-text, A-or-B, Q-text, Q, EditionsRead}
+use Rattle.examples.specs.TableExamples.{P-under, P-seen, E-seen}
 use Rattle.table.specs.Table as T
-
--- P under an edition
-abbrev pub P-under : ℕ → T.Table
-P-under e =
-    record {
-      sorts = T.sends ∷ T.receives ∷ T.ends ∷ [];
-      branches =
-          record {
-            owner = 0;
-            label = 65 ∷ 115 ∷ 107 ∷ 0 ∷ 0 ∷ 0 ∷ 0 ∷ 0 ∷ [];
-            fields = record { kind = 0; low = 2147483648; high = 2147483748 } ∷ [];
-            target = 1;
-          }
-          ∷ record { owner = 1; label = 79 ∷ 107 ∷ 0 ∷ 0 ∷ 0 ∷ 0 ∷ 0 ∷ 0 ∷ []; fields = []; target = 0 }
-          ∷ record { owner = 0; label = 81 ∷ 117 ∷ 105 ∷ 116 ∷ 0 ∷ 0 ∷ 0 ∷ 0 ∷ []; fields = []; target = 2 }
-          ∷ [];
-      shares = 0 ∷ 0 ∷ 0 ∷ [];
-      edition = e;
-    }
-
-abbrev pub P-seen : T.Table
-P-seen = P-under 1
-
-abbrev pub E-seen : T.Table
-E-seen = end-under 1
 
 -- what the texts give
 pub record Read : Type 0 where
