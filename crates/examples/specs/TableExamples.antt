@@ -66,11 +66,11 @@ P-words sorts e =
     ∷ column 2 (e ∷ [])
     ∷ [])
 
-abbrev pub P₁ : Words
-P₁ = P-words (1 ∷ 2 ∷ 0 ∷ []) 1
+abbrev pub P1 : Words
+P1 = P-words (1 ∷ 2 ∷ 0 ∷ []) 1
 
-abbrev pub P₂ : Words
-P₂ = P-words (1 ∷ 2 ∷ 0 ∷ []) 2
+abbrev pub P2 : Words
+P2 = P-words (1 ∷ 2 ∷ 0 ∷ []) 2
 
 -- a second branch with a label of eight letters and two fields; four entries belong to each branch, and the share to its own
 abbrev pub second-words : Words
@@ -91,9 +91,9 @@ second-words =
     ∷ [])
 
 pub record TableWords : Type 0 where
-  pub first-edition : P ≡ P₁
-  pub second-edition : Q ≡ P₂
-  pub seen : view P₁ ≡ P-seen
+  pub first-edition : P ≡ P1
+  pub second-edition : Q ≡ P2
+  pub seen : view P1 ≡ P-seen
   pub end-seen : view E ≡ E-seen
   pub two-fields-read : table "rec X.&{?A()@400.end,?Bcdefghi(flag[0..1],text[3..4])@600.X}" ≡ second-words
   pub two-fields-seen : view second-words
@@ -193,18 +193,18 @@ pub record SoundTables : Type 0 where
       ≡ true
   -- of words: a code that is no sort's, where it is a state's and where not; an edition that is none (request 7: "9 asks that a table's edition be 1 or 2");
   -- a share beside none
-  pub words : (sound-of P₁ ≡ true) × (sound-of P₂ ≡ true) × (sound-of (set P₁ 3 3) ≡ false) × (sound-of (set P₁ 5 3) ≡ true)
-      × (sound-of (set P₁ 2338 0) ≡ false)
-      × (sound-of (set P₁ 2338 3) ≡ false)
-      × (sound-of (set P₁ 2210 1) ≡ false)
+  pub words : (sound-of P1 ≡ true) × (sound-of P2 ≡ true) × (sound-of (set P1 3 3) ≡ false) × (sound-of (set P1 5 3) ≡ true)
+      × (sound-of (set P1 2338 0) ≡ false)
+      × (sound-of (set P1 2338 3) ≡ false)
+      × (sound-of (set P1 2210 1) ≡ false)
       × (sound-of [] ≡ false)
   -- "and a position given with it one of its states"
-  pub positions : (sound-at P₁ 2 ≡ true) × (sound-at P₁ 3 ≡ false) × (sound-at [] 0 ≡ false)
+  pub positions : (sound-at P1 2 ≡ true) × (sound-at P1 3 ≡ false) × (sound-at [] 0 ≡ false)
 
 -- "The dual exchanges sending and receiving"; "any table then given back is empty"
 pub record DualTables : Type 0 where
-  pub dual : dual-of P₁ ≡ record { question = 0; table = P-words (2 ∷ 1 ∷ 0 ∷ []) 1 }
-  pub dual-under-two : dual-of P₂ ≡ record { question = 0; table = P-words (2 ∷ 1 ∷ 0 ∷ []) 2 }
+  pub dual : dual-of P1 ≡ record { question = 0; table = P-words (2 ∷ 1 ∷ 0 ∷ []) 1 }
+  pub dual-under-two : dual-of P2 ≡ record { question = 0; table = P-words (2 ∷ 1 ∷ 0 ∷ []) 2 }
   pub refused : dual-of [] ≡ record { question = 9; table = replicate 2340 0 }
   pub of-lists : T.dual (of-shares 10 990)
       ≡ record { sorts = T.receives ∷ []; branches = of-shares 10 990 .branches; shares = 10 ∷ 990 ∷ []; edition = 1 }
