@@ -1,7 +1,11 @@
 -- The proofs of what specs/ states, each file named for a statement.
+pub mod BatchExamples
+pub mod CodeExamples
 pub mod CountExamples
 pub mod Edges
+pub mod MachineExamples
 pub mod MessageExamples
+pub mod ReportExamples
 pub mod Requests
 pub mod StepExamples
 pub mod TableExamples
