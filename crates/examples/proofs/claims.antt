@@ -3,6 +3,7 @@ pub mod BatchExamples
 pub mod CodeExamples
 pub mod CountExamples
 pub mod Edges
+pub mod GrammarExamples
 pub mod MachineExamples
 pub mod MessageExamples
 pub mod ReportExamples
