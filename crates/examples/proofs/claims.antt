@@ -11,3 +11,4 @@ pub mod Requests
 pub mod StepExamples
 pub mod TableExamples
 pub mod Twelve
+pub mod Utf8Edges
