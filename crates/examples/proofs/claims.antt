@@ -1,3 +1,14 @@
 -- The proofs of what specs/ states, each file named for a statement.
+pub mod BatchExamples
+pub mod CodeExamples
+pub mod CountExamples
+pub mod Edges
+pub mod GrammarExamples
+pub mod MachineExamples
+pub mod MessageExamples
+pub mod ReportExamples
 pub mod Requests
+pub mod StepExamples
+pub mod TableExamples
 pub mod Twelve
+pub mod Utf8Edges

@@ -31,6 +31,7 @@ use Rattle.machine.proofs.claims.FitsItself.{fits-itself}
 use Rattle.machine.proofs.laws.Itself.{reachable-itself}
 use Rattle.examples.specs.Twelve.{P, E, ask, ok, Answers, Twelve}
 use Rattle.table.specs.Table as T
+use Rattle.examples.specs.TableExamples.{P-seen}
 use Rattle.examples.proofs.laws.StepsOfP.{asks-by, asks-100, asks-101, ok-first}
 use Rattle.examples.proofs.laws.FirstStep.{first-refused, first-blamed, first-forwarded}
 use Rattle.examples.proofs.laws.TablesRead as R
@@ -44,7 +45,7 @@ all-asked d p room sd sp l = rw (sd, sp, le-leb (states-of d * states-of p) room
 
 -- P's rules
 abbrev PP : Rules ℕ
-PP = table-rules R.P-seen
+PP = table-rules P-seen
 
 -- P's pairs: Ask leads from 0 to 1, Quit from 0 to 2
 quit : List ℕ
@@ -53,10 +54,10 @@ quit = 81 ∷ 117 ∷ 105 ∷ 116 ∷ 0 ∷ 0 ∷ 0 ∷ 0 ∷ 0 ∷ []
 -- a list of moves of P's own, each forwarded, that leads P and P to one state
 by-moves : (i : ℕ) (vs : List Move) → all-forwarded PP PP (fresh-machine PP PP) vs ≡ true → run PP PP vs .state ≡ i
     → run PP PP vs .position ≡ i
-    → Reachable R.P-seen R.P-seen i i
+    → Reachable P-seen P-seen i i
 by-moves i vs f s p = record { by = vs; forwarded = f; state = s; position = p }
 
-reachable : (i : ℕ) → i < 3 → Reachable R.P-seen R.P-seen i i
+reachable : (i : ℕ) → i < 3 → Reachable P-seen P-seen i i
 unfolding quit all-forwarded is-forward run play move after does while-running arrived fresh-machine effect by-side from-device
     same-sort sort-code allows goes carries holds names well-formed sort every matched same within-kind upper letter-or-digit
     label-rest legal-label number-of first-number pair-up count-of values-of read text-bytes announced cut-up texts-of whole legal-value
@@ -66,14 +67,14 @@ reachable (suc zero) l = by-moves 1 (record { side = Device; bytes = ask 100 } �
 reachable (suc (suc zero)) l = by-moves 2 (record { side = Device; bytes = quit } ∷ []) refl refl refl
 reachable (suc (suc (suc i))) l = absurd (omega (arith, l))
 
-P-seen-count : Count R.P-seen R.P-seen 3
+P-seen-count : Count P-seen P-seen 3
 unfolding pairs sum
 P-seen-count =
     record {
       met = λ i j. eqb i j;
       met-exactly = λ i j k l. (
-        λ e. subst (λ (j : ℕ). Reachable R.P-seen R.P-seen i j) (eqb-true i j e) (reachable i k),
-        λ r. eq-eqb i j (reachable-itself R.P-seen r),
+        λ e. subst (λ (j : ℕ). Reachable P-seen P-seen i j) (eqb-true i j e) (reachable i k),
+        λ r. eq-eqb i j (reachable-itself P-seen r),
       );
       is = refl;
     }

@@ -24,10 +24,10 @@ use Rattle.conversation.proofs.laws.Step.{asked-then, all-well, not-formed, no-
 use Rattle.examples.specs.Twelve.{ask, ok, gives}
 use Rattle.table.specs.Table as T
 use Rattle.conversation.specs.Step as S
-use Rattle.examples.proofs.laws.TablesRead as R
+use Rattle.examples.specs.TableExamples.{P-under}
 
 -- t is a table of P under the edition e
-module _ (t : Words) (e : ℕ) (sound : sound-of t ≡ true) (states : states-of t ≡ 3) (seen : view t ≡ R.P-under e) where
+module _ (t : Words) (e : ℕ) (sound : sound-of t ≡ true) (states : states-of t ≡ 3) (seen : view t ≡ P-under e) where
   -- 9, 10 and 11 get a yes
   P-open : first-no (S.of-state t S.fresh) ≡ 0
   unfolding first-no S.of-state S.fresh S.is-running sound-at sort is-choice
@@ -45,7 +45,7 @@ module _ (t : Words) (e : ℕ) (sound : sound-of t ≡ true) (states : states-of
 
   -- a message that is judged, and one that is refused
   judged : (side : Party) (message out : List ℕ) (j : Judgement ℕ) → S.may-speak e sends side ≡ true → refusal message ≡ 0
-      → length message ≤ length out → judge-said (table-rules (R.P-under e)) 0 (record { side = side; message = read message }) ≡ j
+      → length message ≤ length out → judge-said (table-rules (P-under e)) 0 (record { side = side; message = read message }) ≡ j
       → S.stepping t S.fresh side message out ≡ S.judging j S.fresh side message out
   unfolding S.fresh
   judged side message out j turn formed room h =
@@ -76,14 +76,14 @@ module _ (t : Words) (e : ℕ) (sound : sound-of t ≡ true) (states : states-of
   asks-101 out room = judged Device (ask 101) out (forbidden 3 (some 0)) refl refl room refl
 
 -- under edition 1 the host's Ok is refused
-pub ok-first : (t : Words) → sound-of t ≡ true → states-of t ≡ 3 → view t ≡ R.P-under 1
+pub ok-first : (t : Words) → sound-of t ≡ true → states-of t ≡ 3 → view t ≡ P-under 1
     → (out : List ℕ) → S.stepping t S.fresh Host ok out ≡ gives (S.refused 12) 0 Running out
 unfolding S.refusing speaker is-party S.fresh
 ok-first t sound states seen out =
     turned-away t 1 sound states seen Host ok out 12 (not-its-turn 1 sends Host ok (length out) refl) (λ e. absurd (omega (arith, e)))
 
 -- under edition 2 it is judged
-module _ (t : Words) (sound : sound-of t ≡ true) (states : states-of t ≡ 3) (seen : view t ≡ R.P-under 2) where
+module _ (t : Words) (sound : sound-of t ≡ true) (states : states-of t ≡ 3) (seen : view t ≡ P-under 2) where
   ok-formed : refusal ok ≡ 0
   unfolding every within-kind upper letter-or-digit label-rest legal-label number-of first-number pair-up count-of values-of text-bytes announced
       cut-up texts-of whole legal-value legal-values exact octets is-utf8 legal-texts refusal first-no

@@ -16,33 +16,9 @@ use Rattle.grammar.specs.Reading.{meaning, unguarded, closed, token-formed, gra
 use Rattle.table.specs.Ascii.{ascii}
 use Rattle.grammar.proofs.laws.Reads.{read-sound}
 use Rattle.examples.specs.Twelve.{P, E, P-text, Reads, RefusedAt, table}
-use Rattle.examples.specs.Requests.{NamesAfterRec, shared-text, A-or-B, halves-text, unshared-text, end-under, Q-text, Q, EditionsRead}
+use Rattle.examples.specs.Requests.{NamesAfterRec, shared-text, A-or-B, halves-text, unshared-text, Q-text, Q, EditionsRead}
+use Rattle.examples.specs.TableExamples.{P-under, P-seen, E-seen}
 use Rattle.table.specs.Table as T
-
--- P under an edition
-abbrev pub P-under : ℕ → T.Table
-P-under e =
-    record {
-      sorts = T.sends ∷ T.receives ∷ T.ends ∷ [];
-      branches =
-          record {
-            owner = 0;
-            label = 65 ∷ 115 ∷ 107 ∷ 0 ∷ 0 ∷ 0 ∷ 0 ∷ 0 ∷ [];
-            fields = record { kind = 0; low = 2147483648; high = 2147483748 } ∷ [];
-            target = 1;
-          }
-          ∷ record { owner = 1; label = 79 ∷ 107 ∷ 0 ∷ 0 ∷ 0 ∷ 0 ∷ 0 ∷ 0 ∷ []; fields = []; target = 0 }
-          ∷ record { owner = 0; label = 81 ∷ 117 ∷ 105 ∷ 116 ∷ 0 ∷ 0 ∷ 0 ∷ 0 ∷ []; fields = []; target = 2 }
-          ∷ [];
-      shares = 0 ∷ 0 ∷ 0 ∷ [];
-      edition = e;
-    }
-
-abbrev pub P-seen : T.Table
-P-seen = P-under 1
-
-abbrev pub E-seen : T.Table
-E-seen = end-under 1
 
 -- a text of one choice with two branches, which have these shares
 pub record Shared (s : String) (a b : ℕ) : Type 0 where
