@@ -138,17 +138,17 @@ pub data SideCode : Party → ℕ → Type 0 where
 -- at a state and its counts, a call and what it gives: what the monitor's own call gives there, in numbers. A step of a code that is no side's is
 -- refused by what refuses the turn, or else by 12, and leaves the output
 pub data RawSays (t : Words) (s : M.State) (c : Counts) : RawCall → RawGiven → Type 0 where
-  steps : {side : Party} {code : ℕ} {message out : List ℕ} {r : Verdict} → SideCode side code
+  says-step : {side : Party} {code : ℕ} {message out : List ℕ} {r : Verdict} → SideCode side code
       → VerdictSays r (counted-step t s c side message out .0 .verdict)
       → RawSays t s c (raw-step code message out) (step-gives r (counted-step t s c side message out .0 .output))
-  no-turn : {code q : ℕ} {message out : List ℕ} {r : Verdict} → 2 ≤ code → counted-turn t s c ≡ D.refused q → VerdictSays r (refused q)
+  says-nobodys-turn : {code q : ℕ} {message out : List ℕ} {r : Verdict} → 2 ≤ code → counted-turn t s c ≡ D.refused q → VerdictSays r (refused q)
       → RawSays t s c (raw-step code message out) (step-gives r out)
-  no-side : {code : ℕ} {side : Party} {message out : List ℕ} {r : Verdict} → 2 ≤ code → counted-turn t s c ≡ of-side side → VerdictSays r (refused 12)
+  says-no-side : {code : ℕ} {side : Party} {message out : List ℕ} {r : Verdict} → 2 ≤ code → counted-turn t s c ≡ of-side side → VerdictSays r (refused 12)
       → RawSays t s c (raw-step code message out) (step-gives r out)
-  batches : {device host to-device to-host : List ℕ} {b : Batch} {r : C.Batch} → b ≡ batching t s c (lent device host to-device to-host) → BatchSays r b
+  says-batch : {device host to-device to-host : List ℕ} {b : Batch} {r : C.Batch} → b ≡ batching t s c (lent device host to-device to-host) → BatchSays r b
       → RawSays t s c (raw-batch device host to-device to-host) (batch-gives r (b .lanes .host .output) (b .lanes .device .output))
-  turns : {r : Turn} → TurnSays r (counted-turn t s c) → RawSays t s c raw-turn (turn-gives r)
-  dues : {device host : List ℕ} {r : Due} → DueSays r (counted-turn t s c) device host → RawSays t s c (raw-due device host) (due-gives r)
+  says-turn : {r : Turn} → TurnSays r (counted-turn t s c) → RawSays t s c raw-turn (turn-gives r)
+  says-due : {device host : List ℕ} {r : Due} → DueSays r (counted-turn t s c) device host → RawSays t s c (raw-due device host) (due-gives r)
 
 -- whatever the calls: the start is not refused; those of a side are one conversation of the monitor's calls (`WatchedCalls`); the state that is
 -- kept is the one that they leave, and every further call says what the monitor's own says there

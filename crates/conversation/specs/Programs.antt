@@ -60,10 +60,10 @@ program t s c (k ∷ r) = let g = called t s c k in run-on g (program t (given-s
 
 -- of a call: its answer, and its steps. A step is one; a batch is single calls, or 10 refuses it, somebody being blamed, and nothing changes
 pub data CallDone (t : Words) (s : State) (c : Counts) : Call → Given → List Event → Type 0 where
-  steps : {m : Sent} → CallDone t s c (a-step m) (by-step (event t s m .done, counts-after t c (event t s m ∷ []))) (event t s m ∷ [])
-  takes : {l : Both Left} {events : List Event} → is-running (s .standing) ≡ true → Singly t s l events
+  step-done : {m : Sent} → CallDone t s c (a-step m) (by-step (event t s m .done, counts-after t c (event t s m ∷ []))) (event t s m ∷ [])
+  batch-done : {l : Both Left} {events : List Event} → is-running (s .standing) ≡ true → Singly t s l events
       → CallDone t s c (a-batch l) (by-batch (summed t s c l events)) events
-  away : {l : Both Left} → is-running (s .standing) ≡ false → CallDone t s c (a-batch l) (by-batch (begun s c l (some (refused 10)))) []
+  batch-refused : {l : Both Left} → is-running (s .standing) ≡ false → CallDone t s c (a-batch l) (by-batch (begun s c l (some (refused 10)))) []
 
 -- of all of them, one after another
 pub data CallsDone (t : Words) : State → Counts → List Call → List Given → List Event → Type 0 where

@@ -53,13 +53,13 @@ pub data Notice : Type 0 where
 unfoldable pub warning-questions : Words → State → Counts → ℕ → List (ℕ × Bool)
 warning-questions t s c b = (9, sound-at t (s .position) && counts-sound t c) ∷ (18, ltb b (branches-of t)) ∷ []
 
-unfoldable pub telling : Words → Counts → ℕ → Notice
-telling t c b =
+unfoldable pub notice : Words → Counts → ℕ → Notice
+notice t c b =
     let i = owner-at t b in
     tells (warns (setting-of c) (share-at t b) (n-at c i) (k-at c b)) (speaker (sort (view t) i)) (estimate (n-at c i) (k-at c b))
 
 unfoldable pub warning : Words → State → Counts → ℕ → Notice
-warning t s c b = let q = first-no (warning-questions t s c b) in cond (eqb q 0) (telling t c b) (refused q)
+warning t s c b = let q = first-no (warning-questions t s c b) in cond (eqb q 0) (notice t c b) (refused q)
 
 -- what the program answers
 unfoldable pub estimate-of : Estimate → Option ℕ

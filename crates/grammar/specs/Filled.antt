@@ -69,5 +69,5 @@ abbrev pub written : Built → Reading
 written a = came-out (a .question) (a .at) (filled (a .table))
 
 -- a no
-unfoldable pub refused : ℕ → ℕ → Reading
-refused q at = came-out q at empty-table
+unfoldable pub not-read : ℕ → ℕ → Reading
+not-read q at = came-out q at empty-table

@@ -122,11 +122,11 @@ abbrev mutual
 -- edition number, or nothing
 abbrev pub print-opening : Option Signed → List Tok → List Tok
 print-opening none ts = ts
-print-opening (some n) ts = sign K.edition ∷ number n ∷ ts
+print-opening (some n) ts = sign K.edition-word ∷ number n ∷ ts
 
 -- a whole text: its opening, the type, and the text ran out
 abbrev pub print-text : Protocol → List Tok
-print-text p = print-opening (p .opening) (print (p .type) (sign K.ran-out ∷ []))
+print-text p = print-opening (p .opening) (print (p .type) (sign K.text-end ∷ []))
 
 -- ---- the table that a protocol means
 

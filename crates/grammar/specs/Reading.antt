@@ -82,7 +82,7 @@ table-in (state E O b T) = T
 
 -- what is expected next; where nothing more is, the end of the text
 abbrev pub next-item : State → Item
-next-item (state [] O b T) = just K.ran-out
+next-item (state [] O b T) = just K.text-end
 next-item (state (i ∷ E) O b T) = i
 
 -- what a name means: the first state of the body of the innermost `rec` of that name that is open
@@ -121,28 +121,28 @@ Question = List ℕ → State → Token → Bool
 
 -- 2. Is the token well formed?
 unfoldable pub token-formed : Question
-token-formed s st k = not (eqb (k .kind) K.malformed)
+token-formed s st k = not (eqb (k .kind) K.no-token)
 
 -- a type begins with such a token
 abbrev pub opens-type : ℕ → Bool
-opens-type kind = one-of (K.of "end" ∷ K.name ∷ K.of "rec" ∷ K.of "&" ∷ K.of "+" ∷ []) kind
+opens-type kind = one-of (K.of "end" ∷ K.of-name ∷ K.of "rec" ∷ K.of "&" ∷ K.of "+" ∷ []) kind
 
 -- 3. Does the grammar allow it here, the end of the text included?
 abbrev pub admits : Item → ℕ → Bool
-admits outset kind = eqb kind K.edition || opens-type kind
-admits edition kind = eqb kind K.number
+admits outset kind = eqb kind K.edition-word || opens-type kind
+admits edition kind = eqb kind K.of-number
 admits (just n) kind = eqb kind n
-admits name kind = eqb kind K.name
-admits label kind = eqb kind K.name
+admits name kind = eqb kind K.of-name
+admits label kind = eqb kind K.of-name
 admits type kind = opens-type kind
 admits (more σ) kind = one-of (K.of "," ∷ K.of "}" ∷ []) kind
 admits fields kind = one-of (K.of ")" ∷ K.of "int" ∷ K.of "text" ∷ K.of "flag" ∷ []) kind
 admits field kind = one-of (K.of "int" ∷ K.of "text" ∷ K.of "flag" ∷ []) kind
-admits (low κ) kind = eqb kind K.number
-admits (high κ l) kind = eqb kind K.number
+admits (low κ) kind = eqb kind K.of-number
+admits (high κ l) kind = eqb kind K.of-number
 admits more-fields kind = one-of (K.of "," ∷ K.of ")" ∷ []) kind
 admits dot kind = one-of (K.of "@" ∷ K.of "." ∷ []) kind
-admits share kind = eqb kind K.number
+admits share kind = eqb kind K.of-number
 
 unfoldable pub grammar-allows : Question
 grammar-allows s st k = admits (next-item st) (k .kind)
@@ -153,7 +153,7 @@ edition-known s st k = cond (is-a (next-item st) edition) (in-edition (signed-in
 
 -- a name is used as a type
 abbrev pub as-type : Item → ℕ → Bool
-as-type i kind = (is-a i outset || is-a i type) && eqb kind K.name
+as-type i kind = (is-a i outset || is-a i type) && eqb kind K.of-name
 
 -- 4. Is a name used as a type bound by a `rec` around it?
 abbrev pub is-found : Option ℕ → Bool
@@ -201,8 +201,8 @@ new-label s st k = cond (is-a (next-item st) label) (not (label-used (table-in s
 abbrev pub below : List ℕ → ℕ → ℕ → ℕ → Bool
 below kinds kind count limit = cond (one-of kinds kind) (ltb count limit) true
 
-unfoldable pub within : Question
-within s st k =
+unfoldable pub within-limits : Question
+within-limits s st k =
     below (K.of "+" ∷ K.of "&" ∷ K.of "end" ∷ []) (k .kind) (length (table-in st .sorts)) states-most
     && (below (K.of "!" ∷ K.of "?" ∷ []) (k .kind) (length (table-in st .branches)) branches-most
     && (below (K.of "int" ∷ K.of "text" ∷ K.of "flag" ∷ []) (k .kind) (length (branch-in st .fields)) fields-most
@@ -223,7 +223,7 @@ questions s st k =
     ∷ (4, name-bound s st k) ∷ (5, guarded s st k) ∷ (6, ranged s st k)
     ∷ (19, share-ranged s st k)
     ∷ (7, new-label s st k)
-    ∷ (8, within s st k)
+    ∷ (8, within-limits s st k)
     ∷ (20, shares-add s st k)
     ∷ []
 
@@ -251,7 +251,7 @@ a-field κ E = just (K.of "[") ∷ low κ ∷ just (K.of "]") ∷ more-fields �
 
 -- a branch leads to the first state of its type: what a name means, or the next state n
 unfoldable pub target : List ℕ → Token → List Open → ℕ → ℕ
-target s k O n = cond (eqb (k .kind) K.name) (or-else (meaning O (word-in s k)) n) n
+target s k O n = cond (eqb (k .kind) K.of-name) (or-else (meaning O (word-in s k)) n) n
 
 -- the table at the first token of a type that is no `rec`: with the branch whose type it is, if a choice is open
 unfoldable pub stored : List Open → Branch → Table → ℕ → Table
@@ -262,7 +262,7 @@ stored (a-choice o ∷ O) b T n = add-branch T (aimed b n)
 -- that token: a name, `end`, or `+` or `&`
 unfoldable pub began : Token → List Item → List Open → Table → State
 began k E O T =
-    cond (eqb (k .kind) K.name) (state E (closed O) empty-branch T)
+    cond (eqb (k .kind) K.of-name) (state E (closed O) empty-branch T)
     (cond (eqb (k .kind) (K.of "end")) (state E (closed O) empty-branch (add-state T S.ends))
     (state (just (K.of "{") ∷ a-branch (sign-of (k .kind)) E) (a-choice (length (T .sorts)) ∷ O) empty-branch
     (add-state T (choice-sort (k .kind)))))
@@ -275,7 +275,7 @@ type-taken s E O b T k =
 
 unfoldable pub taken : List ℕ → State → Token → State
 taken s (state [] O b T) k = state [] O b T
-taken s (state (outset ∷ E) O b T) k = cond (eqb (k .kind) K.edition) (state (edition ∷ type ∷ E) O b T) (type-taken s E O b T k)
+taken s (state (outset ∷ E) O b T) k = cond (eqb (k .kind) K.edition-word) (state (edition ∷ type ∷ E) O b T) (type-taken s E O b T k)
 taken s (state (edition ∷ E) O b T) k = state E O b (set-edition T (signed-in s k .value))
 taken s (state (just n ∷ E) O b T) k = state E O b T
 taken s (state (name ∷ E) O b T) k = state E (a-rec (word-in s k) (length (T .sorts)) ∷ O) b T

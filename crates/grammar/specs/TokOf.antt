@@ -12,4 +12,4 @@ use Rattle.grammar.specs.Kind as K
 
 unfoldable pub tok-of : List ℕ → Token → Tok
 tok-of s k =
-    cond (eqb (k .kind) K.name) (word (word-in s k)) (cond (eqb (k .kind) K.number) (number (signed-in s k)) (sign (k .kind)))
+    cond (eqb (k .kind) K.of-name) (word (word-in s k)) (cond (eqb (k .kind) K.of-number) (number (signed-in s k)) (sign (k .kind)))

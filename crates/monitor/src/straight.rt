@@ -5,7 +5,7 @@ ghost use mathlib.Core.Bool.{true};
 ghost use Prim.Native.Nat.{_≤_, _<_};
 ghost use lib.ListN.{length};
 ghost use Rattle.table.specs.View.{branches-of, sound-of};
-ghost use Rattle.monitor.specs.inner.Leaves.{Facing, Carried, Held, Straight, Leading};
+ghost use Rattle.monitor.specs.inner.Leaves.{Facing, Carried, Held, GoesStraight, Leading};
 use super::judge;
 use questions::ask;
 use table::Party;
@@ -14,7 +14,7 @@ use table::Table;
 // The branch that a message takes which gets a yes to 12 to 16 and 22 and is allowed; 128 for any other.
 pub fn takes(t: &Table, position: u8, sort: u32, side: Party, message: &[u8], room: usize) -> usize
     requires { ⌜ sound-of (now t) ≡ true ⌝ }
-    ensures { λ r. ⌜ (r < 128 → Straight (now (t .entry)) position sort side (now (message .entry)) room r) ⌝ }
+    ensures { λ r. ⌜ (r < 128 → GoesStraight (now (t .entry)) position sort side (now (message .entry)) room r) ⌝ }
 {
     if !ask::has_turn(side, sort) {
         return 128;

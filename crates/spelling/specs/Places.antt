@@ -23,14 +23,14 @@ pub record Begins (u : List ℕ) : Type 0 where
   pub is : u ≡ w ++ rest
 
 abbrev pub kind-in : Tok → ℕ
-kind-in (word x) = K.name
-kind-in (number n) = K.number
+kind-in (word x) = K.of-name
+kind-in (number n) = K.of-number
 kind-in (sign k) = k
 
 -- the bytes from the place p on: blanks and tokens, until the text runs out or a byte that is no blank begins nothing named
 pub data Placed : List ℕ → ℕ → List Token → Type 0 where
-  ran-out : {p : ℕ} → Placed [] p (token K.ran-out p p ∷ [])
-  malformed : {b p : ℕ} {s : List ℕ} → blank b ≡ false → (Begins (b ∷ s) → ⊥) → Placed (b ∷ s) p (token K.malformed p p ∷ [])
+  ran-out : {p : ℕ} → Placed [] p (token K.text-end p p ∷ [])
+  malformed : {b p : ℕ} {s : List ℕ} → blank b ≡ false → (Begins (b ∷ s) → ⊥) → Placed (b ∷ s) p (token K.no-token p p ∷ [])
   a-blank : {b p : ℕ} {s : List ℕ} {ks : List Token} → blank b ≡ true → Placed s (p + 1) ks → Placed (b ∷ s) p ks
   a-token : {t : Tok} {w s : List ℕ} {more : ℕ → Bool} {p : ℕ} {ks : List Token}
       → Spells t w more → EndsRun more s → Placed s (p + length w) ks → Placed (w ++ s) p (token (kind-in t) p (p + length w) ∷ ks)

@@ -10,7 +10,7 @@ use lib.Dec.{leb}
 use lib.ListN.{length}
 use Rattle.grammar.specs.Grammar.{Protocol, Tok, print-text, table-of, names-bound, recs-guarded, ranges-legal, labels-new, fields-few, depth, shares-legal, sums-right, opening-legal}
 use Rattle.grammar.specs.TokOf.{tok-of}
-use Rattle.grammar.specs.Filled.{refused}
+use Rattle.grammar.specs.Filled.{not-read}
 use Rattle.grammar.specs.Reading.{reads}
 use Rattle.grammar.specs.declared.token.Token.{Token}
 use Rattle.spelling.specs.Spelling.{Spelt}
@@ -25,11 +25,11 @@ Refusing q = ((1 ≤ q) × (q ≤ 8)) ⊎ ((q ≡ 19) ⊎ ((q ≡ 20) ⊎ (q ≡
 
 -- Every text is read, or refused: one of these numbers, a place and the empty table.
 abbrev pub ReadOrRefused : Type 0
-ReadOrRefused = (s : List ℕ) → (reads s .question ≡ 0) ⊎ ((q : ℕ) × (at : ℕ) × Refusing q × (reads s ≡ refused q at))
+ReadOrRefused = (s : List ℕ) → (reads s .question ≡ 0) ⊎ ((q : ℕ) × (at : ℕ) × Refusing q × (reads s ≡ not-read q at))
 
 -- By 1, exactly a text of more than 8,192 bytes, and the place is 0.
 abbrev pub OneMeans : Type 0
-OneMeans = (s : List ℕ) (at : ℕ) → (reads s ≡ refused 1 at) ↔ ((8192 < length s) × (at ≡ 0))
+OneMeans = (s : List ℕ) (at : ℕ) → (reads s ≡ not-read 1 at) ↔ ((8192 < length s) × (at ≡ 0))
 
 -- the token whose place is p, of those that stand in the text: those before it, it itself and the rest
 pub record At (s : List ℕ) (p : ℕ) : Type 0 where
@@ -49,18 +49,18 @@ upto-here {s} a ts = upto-before a (tok-of s (a .here) ∷ ts)
 -- A refusal by 2 or a later question: there is a token at the place, and no text that is read begins with the tokens up to and with it.
 abbrev pub RefusedMeans : Type 0
 RefusedMeans =
-    (s : List ℕ) (q p : ℕ) → 2 ≤ q → reads s ≡ refused q p
+    (s : List ℕ) (q p : ℕ) → 2 ≤ q → reads s ≡ not-read q p
     → At s p × ((a : At s p) (u : List ℕ) (ts : List Tok) → Spelt u (upto-here a ts) → reads u .question ≡ 0 → ⊥)
 
 -- By 2, besides: the token is malformed.
 abbrev pub TwoMeans : Type 0
-TwoMeans = (s : List ℕ) (p : ℕ) → reads s ≡ refused 2 p → (a : At s p) → a .here .kind ≡ K.malformed
+TwoMeans = (s : List ℕ) (p : ℕ) → reads s ≡ not-read 2 p → (a : At s p) → a .here .kind ≡ K.no-token
 
 -- By 3, besides: no protocol's tokens, the protocol legal or not, begin with them; and there is a text of a protocol whose tokens begin with
 -- those before.
 abbrev pub ThreeMeans : Type 0
 ThreeMeans =
-    (s : List ℕ) (at : ℕ) → reads s ≡ refused 3 at → (a : At s at)
+    (s : List ℕ) (at : ℕ) → reads s ≡ not-read 3 at → (a : At s at)
     → ((p : Protocol) (ts : List Tok) → print-text p ≡ upto-here a ts → ⊥)
     × ((u : List ℕ) × (p : Protocol) × (ts : List Tok) × Spelt u (print-text p) × (print-text p ≡ upto-before a ts))
 

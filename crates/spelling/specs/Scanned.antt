@@ -13,7 +13,7 @@ use Rattle.grammar.specs.Kind as K
 -- no token is malformed
 abbrev pub WellFormed : List Tok → Type 0
 WellFormed [] = Unit {0}
-WellFormed (t ∷ ts) = (t ≡ sign K.malformed → ⊥) × WellFormed ts
+WellFormed (t ∷ ts) = (t ≡ sign K.no-token → ⊥) × WellFormed ts
 
 -- A text spells tokens exactly when the scanner finds them in it and none of them is malformed.
 abbrev pub SpeltScanned : Type 0

@@ -23,8 +23,8 @@ use Rattle.grammar.specs.Kind as K
 abbrev pub a-digit : ℕ → Bool
 a-digit b = leb 48 b && leb b 57
 
-abbrev pub dot : ℕ → Bool
-dot b = eqb b 46
+abbrev pub dot-byte : ℕ → Bool
+dot-byte b = eqb b 46
 
 -- a space or a line feed
 abbrev pub blank : ℕ → Bool
@@ -43,7 +43,7 @@ abbrev pub dot-tokens : List (ℕ × String)
 dot-tokens = own "." ∷ (K.dots, "..") ∷ []
 
 abbrev pub word-tokens : List (ℕ × String)
-word-tokens = own "end" ∷ own "rec" ∷ own "int" ∷ own "text" ∷ own "flag" ∷ (K.edition, "edition") ∷ []
+word-tokens = own "end" ∷ own "rec" ∷ own "int" ∷ own "text" ∷ own "flag" ∷ (K.edition-word, "edition") ∷ []
 
 -- w is what stands beside k in a list
 abbrev pub Listed : List (ℕ × String) → ℕ → List ℕ → Type 0
@@ -63,7 +63,7 @@ Digits (b ∷ w) = (every a-digit (b ∷ w) ≡ true) × (b ≡ 48 → ⊥)
 -- a token, its bytes, and which bytes would go on with it: names and words (letters and digits), digits and dots take the longest run
 pub data Spells : Tok → List ℕ → (ℕ → Bool) → Type 0 where
   a-sign : {k : ℕ} {w : List ℕ} → Listed sign-tokens k w → Spells (sign k) w (λ b. false)
-  a-dot : {k : ℕ} {w : List ℕ} → Listed dot-tokens k w → Spells (sign k) w dot
+  a-dot : {k : ℕ} {w : List ℕ} → Listed dot-tokens k w → Spells (sign k) w dot-byte
   a-word : {k : ℕ} {w : List ℕ} → Listed word-tokens k w → Spells (sign k) w letter-or-digit
   a-name : {w : List ℕ} → Name w → Spells (word (word-of w)) w letter-or-digit
   a-zero : Spells (number (record { minus = false; value = 0 })) (ascii "0") a-digit
@@ -79,7 +79,7 @@ EndsRun more (b ∷ s) = more b ≡ false
 
 -- blanks and tokens in any order, and at last that the text ran out
 pub data Spelt : List ℕ → List Tok → Type 0 where
-  ran-out : Spelt [] (sign K.ran-out ∷ [])
+  ran-out : Spelt [] (sign K.text-end ∷ [])
   a-blank : {b : ℕ} {s : List ℕ} {ts : List Tok} → blank b ≡ true → Spelt s ts → Spelt (b ∷ s) ts
   a-token : {t : Tok} {w s : List ℕ} {more : ℕ → Bool} {ts : List Tok}
       → Spells t w more → EndsRun more s → Spelt s ts → Spelt (w ++ s) (t ∷ ts)

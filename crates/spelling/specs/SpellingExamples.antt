@@ -12,8 +12,8 @@ use Rattle.grammar.specs.Grammar.{sending, receiving, int, Ty, stop, var, loop,
 use Rattle.spelling.specs.Spelling.{Spelt}
 use Rattle.grammar.specs.Kind as K
 
-abbrev name : String → ℕ
-name x = word-of (ascii x)
+abbrev as-name : String → ℕ
+as-name x = word-of (ascii x)
 
 abbrev pub plus : ℕ → Signed
 plus n = record { minus = false; value = n }
@@ -25,31 +25,31 @@ unopened t = record { opening = none; type = t }
 -- document 01's P, as a type
 abbrev pub P-type : Ty
 P-type =
-    loop (name "X")
+    loop (as-name "X")
     (choice sending
-    (also (name "Ask") (record { kind = int; low = plus 0; high = plus 100 } ∷ []) none
-    (choice receiving (last (name "Ok") [] none (var (name "X"))))
-    (last (name "Quit") [] none stop)))
+    (also (as-name "Ask") (record { kind = int; low = plus 0; high = plus 100 } ∷ []) none
+    (choice receiving (last (as-name "Ok") [] none (var (as-name "X"))))
+    (last (as-name "Quit") [] none stop)))
 
 -- two branches with shares
 abbrev pub two-shares : Ty
-two-shares = choice sending (also (name "A") [] (some (plus 400)) stop (last (name "B") [] (some (plus 600)) stop))
+two-shares = choice sending (also (as-name "A") [] (some (plus 400)) stop (last (as-name "B") [] (some (plus 600)) stop))
 
 abbrev Nothing : List ℕ → Type 0
 Nothing s = (ts : List Tok) → Spelt s ts → ⊥
 
-pub record Examples : Type 0 where
+pub record SpellingExamples : Type 0 where
   pub protocol : Spelt (ascii "rec X.+{!Ask(int[0..100]).&{?Ok().X},!Quit().end}") (print-text (unopened P-type))
   -- spaces and line feeds may stand before and after tokens; a tab may not
   pub blanks : Spelt (0x0A ∷ 0x20 ∷ ascii "end" ++ (0x0A ∷ [])) (print-text (unopened stop))
   pub tab : Nothing (0x09 ∷ ascii "end")
   -- a token that begins with a digit takes digits only
-  pub two-tokens : Spelt (ascii "5A") (number (plus 5) ∷ word (name "A") ∷ sign K.ran-out ∷ [])
+  pub two-tokens : Spelt (ascii "5A") (number (plus 5) ∷ word (as-name "A") ∷ sign K.text-end ∷ [])
   -- one to eight bytes
-  pub eight : Spelt (ascii "Abcdefg8") (word (name "Abcdefg8") ∷ sign K.ran-out ∷ [])
+  pub eight : Spelt (ascii "Abcdefg8") (word (as-name "Abcdefg8") ∷ sign K.text-end ∷ [])
   pub nine : Nothing (ascii "Abcdefgh9")
   -- a minus belongs to its number
-  pub negative : Spelt (ascii "-5") (number (record { minus = true; value = 5 }) ∷ sign K.ran-out ∷ [])
+  pub negative : Spelt (ascii "-5") (number (record { minus = true; value = 5 }) ∷ sign K.text-end ∷ [])
   -- no minus before 0, no leading zero
   pub minus-zero : Nothing (ascii "-0")
   pub leading-zero : Nothing (ascii "01")

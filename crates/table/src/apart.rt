@@ -3,14 +3,14 @@ ghost use mathlib.Core.Path.{_≡_};
 ghost use Prim.Native.Nat.{_≤_, _<_};
 ghost use lib.Dec.{eqb};
 ghost use Rattle.table.specs.View.{joined-label};
-ghost use Rattle.table.specs.inner.Scans.{all, alone, mark-of};
+ghost use Rattle.table.specs.inner.Scans.{all, no-twin, mark-of};
 use super::Table;
 
 // Whether there is none among the first n branches. The filter is a set of 4,096 marks: a branch whose mark is not yet in it has no
 // twin before it, and the others are compared with those before them, so that the pass is not quadratic.
 pub fn all_apart(t: &Table, n: usize) -> bool
     requires { ⌜ n ≤ 128 ⌝ }
-    ensures { λ r. ⌜ r ≡ all n (alone (now (t .entry))) ⌝ }
+    ensures { λ r. ⌜ r ≡ all n (no-twin (now (t .entry))) ⌝ }
 {
     let mut seen = [0u32; 128];
     let mut k: usize = 0;
@@ -42,7 +42,7 @@ fn mark(owner: u32, label: u64) -> usize
 // Whether branch i has no twin before it.
 pub fn is_alone(t: &Table, i: usize) -> bool
     requires { ⌜ i < 128 ⌝ }
-    ensures { λ r. ⌜ r ≡ alone (now (t .entry)) i ⌝ }
+    ensures { λ r. ⌜ r ≡ no-twin (now (t .entry)) i ⌝ }
 {
     let owner = t[super::OWNER + i];
     let high = t[super::LABEL_HIGH + i];

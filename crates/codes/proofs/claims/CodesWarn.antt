@@ -13,7 +13,7 @@ use Rattle.table.specs.declared.Party.{Party}
 use Rattle.message.proofs.laws.Judge.{some-eq}
 use Rattle.conversation.specs.declared.State.{State}
 use Rattle.conversation.specs.Counts.{Counts}
-use Rattle.conversation.specs.Warning.{Notice, refused, tells, warning-questions, telling, warning}
+use Rattle.conversation.specs.Warning.{Notice, refused, tells, warning-questions, notice, warning}
 use Rattle.conversation.proofs.laws.Step.{zero-or}
 use Rattle.conversation.proofs.claims.EstimateNearest.{within-bounds, sender-there}
 use Rattle.codes.specs.declared.warnings.Warning.{Warning}
@@ -30,8 +30,8 @@ data Given : Notice → Type 0 where
   a-no : {q : ℕ} → (q ≡ 0 → ⊥) → Given (refused q)
   a-yes : {w : Bool} {side : Party} {e : Option ℕ} → Small e → Given (tells w (some side) e)
 
-told : (t : Words) (s : State) (c : Counts) (b : ℕ) → first-no (warning-questions t s c b) ≡ 0 → Given (telling t c b)
-unfolding telling
+told : (t : Words) (s : State) (c : Counts) (b : ℕ) → first-no (warning-questions t s c b) ≡ 0 → Given (notice t c b)
+unfolding notice
 told t s c b q = rw (sender-there t s c b q .1) (a-yes (within-bounds t s c b q .3))
 
 given : (t : Words) (s : State) (c : Counts) (b : ℕ) → Given (warning t s c b)

@@ -31,7 +31,7 @@ use Rattle.conversation.proofs.laws.Conversation.{refused-forwarded, refused-bl
 use Rattle.conversation.proofs.laws.Due.{refused-turn, device-awaited, host-awaited}
 use Rattle.codes.specs.Codes.{code-side, party-code, standing-code, standing-of, state-bytes, turn-codes, verdict-codes, last-codes}
 use Rattle.codes.specs.Calls.{stepping-as, bytes-after, crossing, step-codes, batch-codes, due-codes}
-use Rattle.codes.specs.RawPrograms.{RawCall, raw-step, raw-batch, raw-turn, raw-due, step-gives, Kept, raw-called, kept-after, kept-from, call-of, calls-of, StateSays, VerdictSays, LastSays, BatchSays, TurnSays, DueSays, device-is-0, host-is-1, RawSays, steps, no-turn, no-side, batches, turns, dues, WatchedRaw}
+use Rattle.codes.specs.RawPrograms.{RawCall, raw-step, raw-batch, raw-turn, raw-due, step-gives, Kept, raw-called, kept-after, kept-from, call-of, calls-of, StateSays, VerdictSays, LastSays, BatchSays, TurnSays, DueSays, device-is-0, host-is-1, RawSays, says-step, says-nobodys-turn, says-no-side, says-batch, says-turn, says-due, WatchedRaw}
 use Rattle.codes.proofs.laws.Codes.{party-same, standing-same, state-same}
 use Rattle.codes.proofs.claims.CodesStep.{codes-step}
 use Rattle.codes.proofs.claims.CodesBatch.{codes-batch}
@@ -206,8 +206,8 @@ module _ (t : Words) (s : State) (c : Counts) where
 
         by : {u : ℕ} (a : Awaited) → counted-turn t s c ≡ a → Turned t s c u a
             → RawSays t s c of-none (step-gives (verdict-codes (refused u)) out)
-        by (D.refused q) e (nobodys-turn m u) = no-turn two e (refused-as u)
-        by (of-side side) e (sides-turn u) = no-side two e (refused-as u)
+        by (D.refused q) e (nobodys-turn m u) = says-nobodys-turn two e (refused-as u)
+        by (of-side side) e (sides-turn u) = says-no-side two e (refused-as u)
 
     -- it changes nothing
     none-keeps : raw-called t (kept s c) of-none .1 ≡ kept s c
@@ -216,12 +216,12 @@ module _ (t : Words) (s : State) (c : Counts) where
 
   pub says : (x : RawCall) → RawSays t s c x (raw-called t (kept s c) x .0)
   unfolding raw-called
-  says (raw-step zero message out) = rw (codes-step t s c Device message out) (steps device-is-0 (verdict-says _))
-  says (raw-step (suc zero) message out) = rw (codes-step t s c Host message out) (steps host-is-1 (verdict-says _))
+  says (raw-step zero message out) = rw (codes-step t s c Device message out) (says-step device-is-0 (verdict-says _))
+  says (raw-step (suc zero) message out) = rw (codes-step t s c Host message out) (says-step host-is-1 (verdict-says _))
   says (raw-step (suc (suc n)) message out) = none-says n message out
-  says (raw-batch device host to-device to-host) = rw (codes-batch t s c (lent device host to-device to-host)) (batches refl (batch-says _))
-  says raw-turn = rw (state-same s) (turns (turn-says (counted-turn t s c) turn-no))
-  says (raw-due device host) = rw (state-same s) (dues (due-says (counted-turn t s c) device host))
+  says (raw-batch device host to-device to-host) = rw (codes-batch t s c (lent device host to-device to-host)) (says-batch refl (batch-says _))
+  says raw-turn = rw (state-same s) (says-turn (turn-says (counted-turn t s c) turn-no))
+  says (raw-due device host) = rw (state-same s) (says-due (due-says (counted-turn t s c) device host))
 
 -- ---- one after another
 

@@ -14,7 +14,7 @@ use Rattle.table.specs.declared.Party.{Party}
 use Rattle.table.proofs.laws.Lists.{decided, never, both}
 use Rattle.conversation.specs.declared.State.{State}
 use Rattle.conversation.specs.Counts.{Counts, setting-of, n-at, k-at, counts-sound}
-use Rattle.conversation.specs.Warning.{difference, square, warns, estimate, Notice, refused, tells, telling, warning-questions, warning, Apart, NoticeMeans, WarningMeans, WarningExactly}
+use Rattle.conversation.specs.Warning.{difference, square, warns, estimate, Notice, refused, tells, notice, warning-questions, warning, Apart, NoticeMeans, WarningMeans, WarningExactly}
 use Rattle.conversation.proofs.laws.Warning.{no-share, with-share, warning-9, warning-18}
 
 -- ---- the comparison
@@ -79,7 +79,7 @@ module _ (t : Words) (s : State) (c : Counts) (b : ℕ) where
   -- the three ways that a call can go
   module _ {X : Type 0} (nine : asked ≡ false → warning t s c b ≡ refused 9 → X)
       (eighteen : sound-at t (s .position) ≡ true → counts-sound t c ≡ true → branches-of t ≤ b → warning t s c b ≡ refused 18 → X)
-      (yes : warning t s c b ≡ telling t c b → X) where
+      (yes : warning t s c b ≡ notice t c b → X) where
     ways : X
     unfolding warning warning-questions first-no
     ways = ⊎-elim sound (λ e. nine e (warning-9 t s c b e)) (decided asked)
@@ -93,17 +93,17 @@ module _ (t : Words) (s : State) (c : Counts) (b : ℕ) where
   abbrev says : ℕ → Type 0
   says n = number-in (warning t s c b) ≡ n
 
-  told-by : says 0 → warning t s c b ≡ telling t c b
+  told-by : says 0 → warning t s c b ≡ notice t c b
   told-by h = ways (λ x e. no (ap number-in e)) (λ x y l e. no (ap number-in e)) (λ e. e)
     where
-      no : {n : ℕ} → number-in (warning t s c b) ≡ suc n → warning t s c b ≡ telling t c b
+      no : {n : ℕ} → number-in (warning t s c b) ≡ suc n → warning t s c b ≡ notice t c b
       no e = absurd (omega (arith, e, h))
 
   means : (w : Bool) (side : Option Party) (e : Option ℕ) → warning t s c b ≡ tells w side e → NoticeMeans t c b w side e
-  unfolding telling speaker
+  unfolding notice speaker
   means w side e h =
       let i = owner-at t b in
-      let x : tells w side e ≡ telling t c b = sym h ∙ told-by (ap number-in h) in
+      let x : tells w side e ≡ notice t c b = sym h ∙ told-by (ap number-in h) in
       let warned : w ≡ warns (setting-of c) (share-at t b) (n-at c i) (k-at c b) = ap warned-in x in
       record {
         warned-exactly = (
@@ -116,7 +116,7 @@ module _ (t : Words) (s : State) (c : Counts) (b : ℕ) where
       }
 
   pub warning-means : WarningMeans t s c b
-  unfolding telling
+  unfolding notice
   warning-means =
       record {
         nine = (

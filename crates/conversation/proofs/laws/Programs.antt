@@ -22,7 +22,7 @@ use Rattle.conversation.specs.Conversation.{Event, event, played, blamed
 use Rattle.conversation.specs.Counts.{Counts, counts-sound, counted-turn}
 use Rattle.conversation.specs.Batch.{begun}
 use Rattle.conversation.specs.Batches.{state-after, counts-after, summed}
-use Rattle.conversation.specs.Programs.{Call, a-step, a-batch, Given, by-step, by-batch, called, given-state, given-counts, Run, run-on, program, CallDone, steps, takes, away, CallsDone, no-call, a-call, awaited-by}
+use Rattle.conversation.specs.Programs.{Call, a-step, a-batch, Given, by-step, by-batch, called, given-state, given-counts, Run, run-on, program, CallDone, step-done, batch-done, batch-refused, CallsDone, no-call, a-call, awaited-by}
 use Rattle.conversation.proofs.laws.Step.{none-stops, not-running}
 use Rattle.conversation.proofs.laws.Conversation.{running-by, stands-sound, Played, played-append, played-stands}
 use Rattle.conversation.proofs.laws.Counts.{counted-then}
@@ -42,9 +42,9 @@ module _ (t : Words) where
 
   pub leaves : {s : State} {c : Counts} {k : Call} {g : Given} {events : List Event} → CallDone t s c k g events → Leaves s c g events
   unfolding played event given-state given-counts state-after counts-after summed begun
-  leaves steps = record { plays = refl; state = refl; counts = refl }
-  leaves (takes on x) = record { plays = singly-played t x; state = refl; counts = refl }
-  leaves (away off) = record { plays = refl; state = refl; counts = refl }
+  leaves step-done = record { plays = refl; state = refl; counts = refl }
+  leaves (batch-done on x) = record { plays = singly-played t x; state = refl; counts = refl }
+  leaves (batch-refused off) = record { plays = refl; state = refl; counts = refl }
 
   -- of all of them
   pub done-played : {s : State} {c : Counts} {calls : List Call} {gs : List Given} {events : List Event} → CallsDone t s c calls gs events
@@ -75,7 +75,7 @@ module _ (t : Words) where
     module _ (past : List Event) (s : State) (at : Stands t past s) (c : Counts) (right : counts-sound t c ≡ true) where
       one : (k : Call) → One s c k
       unfolding called event counts-after
-      one (a-step m) = record { given = _; is-called = ap by-step (counted-then t s c m right); events = event t s m ∷ []; done = steps }
+      one (a-step m) = record { given = _; is-called = ap by-step (counted-then t s c m right); events = event t s m ∷ []; done = step-done }
       one (a-batch l) = ⊎-elim on off (decided (is-running (s .standing)))
         where
           here : (sound-of t ≡ true) × (s .position < states-of t)
@@ -84,12 +84,12 @@ module _ (t : Words) where
           on : is-running (s .standing) ≡ true → One s c (a-batch l)
           on r =
               let b = batch-singly t s c l (none-stops t s c (here .0) (here .1) right r) in
-              record { given = _; is-called = ap by-batch (b .1 (b .0 .0) (b .0 .1)); events = b .0 .0; done = takes r (b .0 .1) }
+              record { given = _; is-called = ap by-batch (b .1 (b .0 .0) (b .0 .1)); events = b .0 .0; done = batch-done r (b .0 .1) }
 
           off : is-running (s .standing) ≡ false → One s c (a-batch l)
           off r =
               let q = not-running t s c (here .0) (here .1) right r in
-              record { given = _; is-called = ap by-batch (sym (kept-out t l s c 10 (sym q) (λ z. omega arith))); events = []; done = away r }
+              record { given = _; is-called = ap by-batch (sym (kept-out t l s c 10 (sym q) (λ z. omega arith))); events = []; done = batch-refused r }
 
     module _ (past : List Event) (s : State) (c : Counts) (k : Call) (r : List Call) (x : One s c k) where
       abbrev rest : Given → Run

@@ -17,7 +17,7 @@ use Rattle.table.proofs.laws.View.{sound-facts, shares-sound, sort-of-is}
 use Rattle.table.proofs.laws.SharesRight.{share-most}
 use Rattle.conversation.specs.declared.State.{State}
 use Rattle.conversation.specs.Counts.{Counts, setting-of, n-at, k-at, counts-sound, legal-setting}
-use Rattle.conversation.specs.Warning.{difference, square, warns, rounded, estimate, refused, tells, warning-questions, telling, warning}
+use Rattle.conversation.specs.Warning.{difference, square, warns, rounded, estimate, refused, tells, warning-questions, notice, warning}
 use Rattle.conversation.proofs.laws.Step.{two-yes}
 use Rattle.conversation.proofs.laws.Batch.{sound-parts}
 use Rattle.conversation.proofs.laws.Counts.{counts-sums, Few, counts-few}
@@ -106,6 +106,6 @@ module _ (t : Words) (s : State) (c : Counts) (b : ℕ) where
         → far ≡ warns (setting-of c) (share-at t b) (n-at c (owner-at t b)) (k-at c b)
         → some side ≡ speaker (sort-of (sort-at t (owner-at t b))) → o ≡ estimate (n-at c (owner-at t b)) (k-at c b)
         → tells far (some side) o ≡ warning t s c b
-    unfolding warning warning-questions first-no telling
+    unfolding warning warning-questions first-no notice
     warning-tells l far side o x y z =
         rw (e, f, lt-ltb b (branches-of t) l, sort-of-is t (owner-at t b) (sound-facts t (sound-parts t (s .position) e .0) .owners b l), x, y, z)

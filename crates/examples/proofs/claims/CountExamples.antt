@@ -113,14 +113,14 @@ branches-warn =
 pub warnings-told : WarningsTold
 unfolding ConversationCounts.adds-up ConversationCounts.counts-sound ConversationCounts.legal-setting ConversationStep.fresh
     ConversationWarning.difference ConversationWarning.estimate ConversationWarning.estimate-of ConversationWarning.notice-of
-    ConversationWarning.rounded ConversationWarning.square ConversationWarning.telling ConversationWarning.warning
+    ConversationWarning.rounded ConversationWarning.square ConversationWarning.notice ConversationWarning.warning
     ConversationWarning.warning-questions ConversationWarning.warns GrammarBuilding.add-branch GrammarBuilding.add-share GrammarBuilding.add-state
     GrammarBuilding.choice-right GrammarBuilding.denied GrammarBuilding.label-used GrammarBuilding.set-edition GrammarFilled.filled
     GrammarNumber.in-count GrammarNumber.in-kind GrammarNumber.offset GrammarNumber.signed-of GrammarNumber.value-of GrammarReading.began
     GrammarReading.built GrammarReading.choice-sort GrammarReading.closed GrammarReading.edition-known GrammarReading.grammar-allows
     GrammarReading.guarded GrammarReading.kind-of GrammarReading.meaning GrammarReading.name-bound GrammarReading.new-label GrammarReading.questions
     GrammarReading.ranged GrammarReading.reads GrammarReading.run-tokens GrammarReading.share-ranged GrammarReading.shares-add GrammarReading.sign-of
-    GrammarReading.stored GrammarReading.taken GrammarReading.target GrammarReading.token-formed GrammarReading.unguarded GrammarReading.within
+    GrammarReading.stored GrammarReading.taken GrammarReading.target GrammarReading.token-formed GrammarReading.unguarded GrammarReading.within-limits
     GrammarToken.packed GrammarToken.word-of GrammarScanner.begin-at GrammarScanner.class-of GrammarScanner.dots-token GrammarScanner.name-token
     GrammarScanner.number-kind GrammarScanner.number-token GrammarScanner.run-end GrammarScanner.run-of GrammarScanner.token-at GrammarScanner.tokens
     GrammarScanner.tokens-from GrammarScanner.word-kind GrammarScanner.word-token TableLists.every TableLists.first-no TableLists.matched

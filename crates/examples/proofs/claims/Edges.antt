@@ -13,12 +13,12 @@ use Rattle.table.specs.View as TableView
 
 pub kinds-read : KindsRead
 unfolding GrammarBuilding.add-branch GrammarBuilding.add-share GrammarBuilding.add-state GrammarBuilding.choice-right GrammarBuilding.denied
-    GrammarBuilding.label-used GrammarBuilding.set-edition GrammarFilled.filled GrammarFilled.refused GrammarNumber.in-count GrammarNumber.in-kind
+    GrammarBuilding.label-used GrammarBuilding.set-edition GrammarFilled.filled GrammarFilled.not-read GrammarNumber.in-count GrammarNumber.in-kind
     GrammarNumber.offset GrammarNumber.signed-of GrammarNumber.value-of GrammarReading.began GrammarReading.built GrammarReading.choice-sort
     GrammarReading.closed GrammarReading.edition-known GrammarReading.grammar-allows GrammarReading.guarded GrammarReading.kind-of
     GrammarReading.meaning GrammarReading.name-bound GrammarReading.new-label GrammarReading.questions GrammarReading.ranged GrammarReading.reads
     GrammarReading.run-tokens GrammarReading.share-ranged GrammarReading.shares-add GrammarReading.sign-of GrammarReading.stored GrammarReading.taken
-    GrammarReading.target GrammarReading.token-formed GrammarReading.unguarded GrammarReading.within GrammarToken.packed GrammarToken.word-of
+    GrammarReading.target GrammarReading.token-formed GrammarReading.unguarded GrammarReading.within-limits GrammarToken.packed GrammarToken.word-of
     GrammarScanner.begin-at GrammarScanner.class-of GrammarScanner.dots-token GrammarScanner.name-token GrammarScanner.number-kind
     GrammarScanner.number-token GrammarScanner.run-end GrammarScanner.run-of GrammarScanner.token-at GrammarScanner.tokens GrammarScanner.tokens-from
     GrammarScanner.word-kind GrammarScanner.word-token TableLists.every TableLists.first-no TableLists.matched TableLists.same TableLists.some-one
@@ -41,12 +41,12 @@ kinds-read =
 
 pub limits-kept : LimitsKept
 unfolding GrammarBuilding.add-branch GrammarBuilding.add-share GrammarBuilding.add-state GrammarBuilding.choice-right GrammarBuilding.denied
-    GrammarBuilding.label-used GrammarBuilding.set-edition GrammarFilled.filled GrammarFilled.refused GrammarNumber.in-count GrammarNumber.in-kind
+    GrammarBuilding.label-used GrammarBuilding.set-edition GrammarFilled.filled GrammarFilled.not-read GrammarNumber.in-count GrammarNumber.in-kind
     GrammarNumber.offset GrammarNumber.signed-of GrammarNumber.value-of GrammarReading.began GrammarReading.built GrammarReading.choice-sort
     GrammarReading.closed GrammarReading.edition-known GrammarReading.grammar-allows GrammarReading.guarded GrammarReading.kind-of
     GrammarReading.meaning GrammarReading.name-bound GrammarReading.new-label GrammarReading.questions GrammarReading.ranged GrammarReading.reads
     GrammarReading.run-tokens GrammarReading.share-ranged GrammarReading.shares-add GrammarReading.sign-of GrammarReading.stored GrammarReading.taken
-    GrammarReading.target GrammarReading.token-formed GrammarReading.unguarded GrammarReading.within GrammarToken.packed GrammarToken.word-of
+    GrammarReading.target GrammarReading.token-formed GrammarReading.unguarded GrammarReading.within-limits GrammarToken.packed GrammarToken.word-of
     GrammarScanner.begin-at GrammarScanner.class-of GrammarScanner.dots-token GrammarScanner.name-token GrammarScanner.number-kind
     GrammarScanner.number-token GrammarScanner.run-end GrammarScanner.run-of GrammarScanner.token-at GrammarScanner.tokens GrammarScanner.tokens-from
     GrammarScanner.word-kind GrammarScanner.word-token TableLists.every TableLists.first-no TableLists.matched TableLists.same TableLists.some-one
@@ -75,12 +75,12 @@ limits-kept =
 
 pub names-read : NamesRead
 unfolding GrammarBuilding.add-branch GrammarBuilding.add-share GrammarBuilding.add-state GrammarBuilding.choice-right GrammarBuilding.denied
-    GrammarBuilding.label-used GrammarBuilding.set-edition GrammarFilled.filled GrammarFilled.refused GrammarNumber.in-count GrammarNumber.in-kind
+    GrammarBuilding.label-used GrammarBuilding.set-edition GrammarFilled.filled GrammarFilled.not-read GrammarNumber.in-count GrammarNumber.in-kind
     GrammarNumber.offset GrammarNumber.signed-of GrammarNumber.value-of GrammarReading.began GrammarReading.built GrammarReading.choice-sort
     GrammarReading.closed GrammarReading.edition-known GrammarReading.grammar-allows GrammarReading.guarded GrammarReading.kind-of
     GrammarReading.meaning GrammarReading.name-bound GrammarReading.new-label GrammarReading.questions GrammarReading.ranged GrammarReading.reads
     GrammarReading.run-tokens GrammarReading.share-ranged GrammarReading.shares-add GrammarReading.sign-of GrammarReading.stored GrammarReading.taken
-    GrammarReading.target GrammarReading.token-formed GrammarReading.unguarded GrammarReading.within GrammarToken.packed GrammarToken.word-of
+    GrammarReading.target GrammarReading.token-formed GrammarReading.unguarded GrammarReading.within-limits GrammarToken.packed GrammarToken.word-of
     GrammarScanner.begin-at GrammarScanner.class-of GrammarScanner.dots-token GrammarScanner.name-token GrammarScanner.number-kind
     GrammarScanner.number-token GrammarScanner.run-end GrammarScanner.run-of GrammarScanner.token-at GrammarScanner.tokens GrammarScanner.tokens-from
     GrammarScanner.word-kind GrammarScanner.word-token TableLists.every TableLists.first-no TableLists.matched TableLists.same TableLists.some-one
@@ -112,12 +112,12 @@ names-read =
 
 pub share-edges : ShareEdges
 unfolding GrammarBuilding.add-branch GrammarBuilding.add-share GrammarBuilding.add-state GrammarBuilding.choice-right GrammarBuilding.denied
-    GrammarBuilding.label-used GrammarBuilding.set-edition GrammarFilled.filled GrammarFilled.refused GrammarNumber.in-count GrammarNumber.in-kind
+    GrammarBuilding.label-used GrammarBuilding.set-edition GrammarFilled.filled GrammarFilled.not-read GrammarNumber.in-count GrammarNumber.in-kind
     GrammarNumber.offset GrammarNumber.signed-of GrammarNumber.value-of GrammarReading.began GrammarReading.built GrammarReading.choice-sort
     GrammarReading.closed GrammarReading.edition-known GrammarReading.grammar-allows GrammarReading.guarded GrammarReading.kind-of
     GrammarReading.meaning GrammarReading.name-bound GrammarReading.new-label GrammarReading.questions GrammarReading.ranged GrammarReading.reads
     GrammarReading.run-tokens GrammarReading.share-ranged GrammarReading.shares-add GrammarReading.sign-of GrammarReading.stored GrammarReading.taken
-    GrammarReading.target GrammarReading.token-formed GrammarReading.unguarded GrammarReading.within GrammarToken.packed GrammarToken.word-of
+    GrammarReading.target GrammarReading.token-formed GrammarReading.unguarded GrammarReading.within-limits GrammarToken.packed GrammarToken.word-of
     GrammarScanner.begin-at GrammarScanner.class-of GrammarScanner.dots-token GrammarScanner.name-token GrammarScanner.number-kind
     GrammarScanner.number-token GrammarScanner.run-end GrammarScanner.run-of GrammarScanner.token-at GrammarScanner.tokens GrammarScanner.tokens-from
     GrammarScanner.word-kind GrammarScanner.word-token TableLists.every TableLists.first-no TableLists.matched TableLists.same TableLists.some-one
@@ -144,7 +144,7 @@ unfolding GrammarBuilding.add-branch GrammarBuilding.add-share GrammarBuilding.a
     GrammarReading.edition-known GrammarReading.grammar-allows GrammarReading.guarded GrammarReading.kind-of GrammarReading.meaning
     GrammarReading.name-bound GrammarReading.new-label GrammarReading.questions GrammarReading.ranged GrammarReading.reads GrammarReading.run-tokens
     GrammarReading.share-ranged GrammarReading.shares-add GrammarReading.sign-of GrammarReading.stored GrammarReading.taken GrammarReading.target
-    GrammarReading.token-formed GrammarReading.unguarded GrammarReading.within GrammarToken.packed GrammarToken.word-of GrammarScanner.begin-at
+    GrammarReading.token-formed GrammarReading.unguarded GrammarReading.within-limits GrammarToken.packed GrammarToken.word-of GrammarScanner.begin-at
     GrammarScanner.class-of GrammarScanner.dots-token GrammarScanner.name-token GrammarScanner.number-kind GrammarScanner.number-token
     GrammarScanner.run-end GrammarScanner.run-of GrammarScanner.token-at GrammarScanner.tokens GrammarScanner.tokens-from GrammarScanner.word-kind
     GrammarScanner.word-token TableLists.every TableLists.first-no TableLists.matched TableLists.same TableLists.some-one TableLists.sum-of

@@ -13,7 +13,7 @@ use Rattle.table.specs.View.{sound-of, sound-at}
 use Rattle.table.specs.declared.Party.the-variants.{Device}
 use Rattle.conversation.specs.Step.{fresh}
 use Rattle.conversation.specs.Counts.{legal-setting, adds-up, counts-sound}
-use Rattle.conversation.specs.Warning.{warns, estimate, refused, tells, telling, warning-questions, warning}
+use Rattle.conversation.specs.Warning.{warns, estimate, refused, tells, notice, warning-questions, warning}
 use Rattle.grammar.proofs.laws.Reads.{read-sound}
 use Rattle.examples.specs.Twelve.{table}
 use Rattle.examples.specs.Requests.{two-counts, noticed}
@@ -34,11 +34,11 @@ module _ (s : String) (a b : ℕ) (x : R.Shared s a b) where
   module _ (z n k l : ℕ) where
     module _ (yes : right z n k l ≡ true) where
       pub of-first : noticed s (two-counts z n k l) 0 ≡ tells (warns z a n k) (some Device) (estimate n k)
-      unfolding warning warning-questions first-no telling sound-at fresh sort speaker
+      unfolding warning warning-questions first-no notice sound-at fresh sort speaker
       of-first = rw (sound, adds z n k l ∙ yes, x .states, x .branches, x .owners .0, x .shares .0, x .seen)
 
       pub of-second : noticed s (two-counts z n k l) 1 ≡ tells (warns z b n l) (some Device) (estimate n l)
-      unfolding warning warning-questions first-no telling sound-at fresh sort speaker
+      unfolding warning warning-questions first-no notice sound-at fresh sort speaker
       of-second = rw (sound, adds z n k l ∙ yes, x .states, x .branches, x .owners .1, x .shares .1, x .seen)
 
       pub of-third : noticed s (two-counts z n k l) 2 ≡ refused 18

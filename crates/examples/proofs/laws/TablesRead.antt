@@ -11,8 +11,8 @@ use Rattle.grammar.specs.inner.Scanner.{class-of, run-of, run-end, word-kind, w
 use Rattle.grammar.specs.Token.{packed, word-of}
 use Rattle.grammar.specs.Number.{value-of, signed-of, offset, in-kind, in-count}
 use Rattle.grammar.specs.Building.{set-edition, add-state, add-branch, add-share, label-used, choice-right, denied}
-use Rattle.grammar.specs.Filled.{filled, refused}
-use Rattle.grammar.specs.Reading.{meaning, unguarded, closed, token-formed, grammar-allows, edition-known, name-bound, guarded, ranged, share-ranged, new-label, within, shares-add, sign-of, choice-sort, kind-of, target, stored, began, taken, run-tokens, built, reads, questions}
+use Rattle.grammar.specs.Filled.{filled, not-read}
+use Rattle.grammar.specs.Reading.{meaning, unguarded, closed, token-formed, grammar-allows, edition-known, name-bound, guarded, ranged, share-ranged, new-label, within-limits, shares-add, sign-of, choice-sort, kind-of, target, stored, began, taken, run-tokens, built, reads, questions}
 use Rattle.table.specs.Ascii.{ascii}
 use Rattle.grammar.proofs.laws.Reads.{read-sound}
 use Rattle.examples.specs.Twelve.{P, E, P-text, Reads, RefusedAt, table}
@@ -54,7 +54,7 @@ pub record Read : Type 0 where
   pub Q-view : view Q ≡ P-under 2
 
 pub read : Read
-unfolding P E Q every same matched some-one upto sum-of T.within-kind T.of-choice T.shares-right T.known-edition label-of sort-of view empty-table T.letter-or-digit class-of run-of run-end word-kind word-token name-token number-kind number-token dots-token begin-at token-at tokens-from tokens packed word-of value-of signed-of offset in-kind in-count set-edition add-state add-branch add-share label-used choice-right denied refused filled meaning unguarded closed token-formed grammar-allows edition-known name-bound guarded ranged share-ranged new-label within shares-add first-no questions sign-of choice-sort kind-of target stored began taken run-tokens built reads
+unfolding P E Q every same matched some-one upto sum-of T.within-kind T.of-choice T.shares-right T.known-edition label-of sort-of view empty-table T.letter-or-digit class-of run-of run-end word-kind word-token name-token number-kind number-token dots-token begin-at token-at tokens-from tokens packed word-of value-of signed-of offset in-kind in-count set-edition add-state add-branch add-share label-used choice-right denied not-read filled meaning unguarded closed token-formed grammar-allows edition-known name-bound guarded ranged share-ranged new-label within-limits shares-add first-no questions sign-of choice-sort kind-of target stored began taken run-tokens built reads
 read =
     record {
       end-reads = (refl, refl);

@@ -15,7 +15,7 @@ use Rattle.grammar.proofs.laws.Questions.{asked}
 use Rattle.table.specs.Table.{Table, Branch}
 use Rattle.grammar.specs.Token.{word-of, word-in}
 use Rattle.grammar.specs.Number.{Signed, signed-in, offset}
-use Rattle.grammar.specs.Reading.{Item, outset, edition, just, name, label, type, more, fields, field, low, high, more-fields, dot, share, Open, State, state, opens-type, admits, token-formed, grammar-allows, edition-known, name-bound, guarded, ranged, share-ranged, new-label, within, shares-add, sign-of, kind-of, a-branch, a-field, began, type-taken, taken, questions}
+use Rattle.grammar.specs.Reading.{Item, outset, edition, just, name, label, type, more, fields, field, low, high, more-fields, dot, share, Open, State, state, opens-type, admits, token-formed, grammar-allows, edition-known, name-bound, guarded, ranged, share-ranged, new-label, within-limits, shares-add, sign-of, kind-of, a-branch, a-field, began, type-taken, taken, questions}
 use Rattle.grammar.specs.Grammar.{Tok, word, number, sign, sending, receiving, Kind, int, text, flag, SyntaxField, Share, Ty, stop, var, loop, choice, Br, last, also, letter, print-field, print-more, print-fields, print-share, print-head, print, print-br, print-opening}
 use Rattle.grammar.specs.TokOf.{tok-of}
 use Rattle.grammar.specs.declared.token.Token.{Token}
@@ -589,7 +589,7 @@ module _ (s : List ℕ) (k : Token) where
   pub asked-three : (st : State) → asked s st k ≡ 3 → grammar-allows s st k ≡ false
   unfolding first-no questions
   asked-three st h =
-      go (token-formed s st k) (grammar-allows s st k) (edition-known s st k) (name-bound s st k) (guarded s st k) (ranged s st k) (share-ranged s st k) (new-label s st k) (within s st k) (shares-add s st k) h
+      go (token-formed s st k) (grammar-allows s st k) (edition-known s st k) (name-bound s st k) (guarded s st k) (ranged s st k) (share-ranged s st k) (new-label s st k) (within-limits s st k) (shares-add s st k) h
     where
       go : (x y m c d g w e f v : Bool)
           → _≡_ {A = ℕ} (cond x (cond y (cond m (cond c (cond d (cond g (cond w (cond e (cond f (cond v 0 20) 8) 7) 19) 6) 5) 4) 23) 3) 2) 3 → y ≡ false

@@ -11,7 +11,7 @@ use Rattle.table.specs.Lists.{first-no}
 use Rattle.table.specs.Table.{Branch, Table}
 use Rattle.grammar.specs.Number.{Signed, in-edition}
 use Rattle.grammar.specs.Building.{empty-branch, stateless, set-edition, Built}
-use Rattle.grammar.specs.Reading.{Item, outset, edition, type, Open, State, state, start, token-formed, grammar-allows, edition-known, name-bound, guarded, ranged, share-ranged, new-label, within, shares-add, taken, run-tokens, questions}
+use Rattle.grammar.specs.Reading.{Item, outset, edition, type, Open, State, state, start, token-formed, grammar-allows, edition-known, name-bound, guarded, ranged, share-ranged, new-label, within-limits, shares-add, taken, run-tokens, questions}
 use Rattle.grammar.specs.Grammar.{Ty, Tok, number, sign, print, print-opening, edition-named, opening-legal}
 use Rattle.grammar.specs.TokOf.{tok-of}
 use Rattle.grammar.specs.declared.token.Token.{Token}
@@ -24,18 +24,18 @@ use Rattle.grammar.proofs.laws.Unique.{no-edition}
 -- at the outset any token but `edition` does what it does where a type is expected
 pub outset-same : (s : List ℕ) (K : List Item) (O : List Open) (b : Branch) (T : Table) (k : Token) → (k .kind ≡ 69 → ⊥)
     → (asked s (state (outset ∷ K) O b T) k ≡ asked s (state (type ∷ K) O b T) k) × (taken s (state (outset ∷ K) O b T) k ≡ taken s (state (type ∷ K) O b T) k)
-unfolding first-no questions token-formed grammar-allows edition-known name-bound guarded ranged share-ranged new-label within shares-add taken
+unfolding first-no questions token-formed grammar-allows edition-known name-bound guarded ranged share-ranged new-label within-limits shares-add taken
 outset-same s K O b T k h = (rw (ne-eqb _ _ h), rw (ne-eqb _ _ h))
 
 module _ (s : List ℕ) (q : ℕ) (E : List Item) (O : List Open) (b : Branch) (T : Table) where
   outset-one : (k : Token) → tok-of s k ≡ sign 69
       → (asked s (state (outset ∷ E) O b T) k ≡ 0) × (taken s (state (outset ∷ E) O b T) k ≡ state (edition ∷ type ∷ E) O b T)
-  unfolding first-no questions token-formed grammar-allows edition-known name-bound guarded ranged share-ranged new-label within shares-add taken
+  unfolding first-no questions token-formed grammar-allows edition-known name-bound guarded ranged share-ranged new-label within-limits shares-add taken
   outset-one k e = let h : k .kind ≡ 69 = sign-kind s k 69 e in (rw h, rw h)
 
   edition-one : (n : Signed) {us : List Tok} → (q ≡ 23 → in-edition n ≡ true)
       → Goes s q (in-edition n ≡ true) (state (edition ∷ E) O b T) (number n ∷ us) (state E O b (set-edition T (n .value))) us
-  unfolding first-no questions token-formed grammar-allows edition-known name-bound guarded ranged share-ranged new-label within shares-add taken
+  unfolding first-no questions token-formed grammar-allows edition-known name-bound guarded ranged share-ranged new-label within-limits shares-add taken
   edition-one n g = one s (λ k h.
       let w = number-kind s k n h in
       let a : asked s (state (edition ∷ E) O b T) k ≡ cond (in-edition n) 0 23 = rw (w .0, w .1) in

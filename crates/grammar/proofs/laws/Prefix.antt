@@ -13,7 +13,7 @@ use borrow.Author.Tests.{eqb-true, eqb-false}
 use Rattle.grammar.proofs.laws.Questions.{asked}
 use Rattle.grammar.specs.inner.Scanner.{token-at, tokens-from, tokens}
 use Rattle.grammar.specs.Building.{denied, Built}
-use Rattle.grammar.specs.Filled.{refused}
+use Rattle.grammar.specs.Filled.{not-read}
 use Rattle.grammar.specs.Reading.{Item, outset, edition, just, name, label, type, more, fields, field, low, high, more-fields, dot, share, State, state, admits, grammar-allows, taken, run-tokens, start, built, reads}
 use Rattle.grammar.specs.Grammar.{Tok, sign, Protocol, print, print-opening, print-text}
 use Rattle.grammar.specs.TokOf.{tok-of}
@@ -165,8 +165,8 @@ pub record Forbidden (s : List ℕ) (p : ℕ) : Type 0 where
   pub some : (p : Protocol) × (us : List Tok) × (print-text p ≡ map (tok-of s) before ++ us)
   pub made-up : MadeUp (some .1)
 
-pub three : (s : List ℕ) (p : ℕ) → reads s ≡ refused 3 p → Forbidden s p
-unfolding reads built refused denied
+pub three : (s : List ℕ) (p : ℕ) → reads s ≡ not-read 3 p → Forbidden s p
+unfolding reads built not-read denied
 three s p h = go (leb (length s) 8192) (ap (λ (x : Reading). x .question) h) (ap (λ (x : Reading). x .at) h)
   where
     go : (x : Bool) → cond x (run-tokens s start (tokens s)) (denied 1 0) .question ≡ 3 → cond x (run-tokens s start (tokens s)) (denied 1 0) .at ≡ p → Forbidden s p

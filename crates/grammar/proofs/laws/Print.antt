@@ -19,7 +19,7 @@ use Rattle.grammar.specs.Token.{one-of}
 use Rattle.grammar.specs.Number.{Signed, offset, in-kind, in-share}
 use Rattle.table.specs.View.{label-of}
 use Rattle.grammar.specs.Building.{empty-branch, labelled, field-added, add-state, add-branch, add-share, label-used, choice-right}
-use Rattle.grammar.specs.Reading.{Item, just, name, label, type, more, fields, field, low, high, more-fields, dot, share, Open, a-rec, a-choice, State, state, meaning, unguarded, closed, token-formed, grammar-allows, edition-known, is-found, name-bound, guarded, ranged, share-ranged, new-label, within, shares-add, sign-of, choice-sort, kind-of, a-branch, a-field, target, stored, began, taken, questions}
+use Rattle.grammar.specs.Reading.{Item, just, name, label, type, more, fields, field, low, high, more-fields, dot, share, Open, a-rec, a-choice, State, state, meaning, unguarded, closed, token-formed, grammar-allows, edition-known, is-found, name-bound, guarded, ranged, share-ranged, new-label, within-limits, shares-add, sign-of, choice-sort, kind-of, a-branch, a-field, target, stored, began, taken, questions}
 use Rattle.grammar.specs.Grammar.{Way, sending, receiving, Kind, int, text, flag, SyntaxField, Share, Ty, stop, var, loop, choice, Br, last, also, Tok, word, number, sign, mark, arrow, letter, kind-code, way-sort, field-of, print-more, print-fields, print-share, print-head, print, print-br, sorts, sorts-br, bind, or-else, first-state, share-of, shares, shares-br, range-legal, share-legal, branch-for as row, branches as rows, branches-br as rowsBr}
 use Rattle.grammar.specs.TokOf.{tok-of}
 use Rattle.grammar.specs.declared.token.Token.{Token}
@@ -85,7 +85,7 @@ module _ (s : List ℕ) (q : ℕ) (v : ℕ) where
 
   plain : (n : ℕ) → Uncounted n → (E : List Item) (O : List Open) (b : Branch) (T : Table) {Q : Type 0} {st : State} {us vs : List Tok}
       → Goes s q Q (state E O b T) us st vs → Goes s q Q (state (just n ∷ E) O b T) (sign n ∷ us) st vs
-  unfolding first-no questions token-formed grammar-allows edition-known name-bound guarded ranged share-ranged new-label within shares-add taken
+  unfolding first-no questions token-formed grammar-allows edition-known name-bound guarded ranged share-ranged new-label within-limits shares-add taken
   plain n u E O b T g = past s (λ k h.
       let e : k .kind ≡ n = sign-kind s k n h in
       (rw (e, u .0, eq-eqb n n refl, u .1, u .2, u .3, u .4), refl)) g
@@ -95,14 +95,14 @@ module _ (s : List ℕ) (q : ℕ) (v : ℕ) where
   module _ (E : List Item) (O : List Open) (T : Table) where
     low-one : (b : Branch) (κ : ℕ) (n : Signed) {us : List Tok} → (q ≡ 6 → in-kind κ n ≡ true)
         → Goes s q (in-kind κ n ≡ true) (state (low κ ∷ E) O b T) (number n ∷ us) (state (just 58 ∷ high κ (offset n) ∷ E) O b T) us
-    unfolding first-no questions token-formed grammar-allows edition-known name-bound guarded ranged share-ranged new-label within shares-add taken
+    unfolding first-no questions token-formed grammar-allows edition-known name-bound guarded ranged share-ranged new-label within-limits shares-add taken
     low-one b κ n g = tested (in-kind κ n) 6 (omega arith) g (λ k h.
         let w = number-kind s k n h in
         (rw (w .0, w .1), ap (λ (m : Signed). state (just 58 ∷ high κ (offset m) ∷ E) O b T) (w .1)))
 
     high-one : (b : Branch) (κ l : ℕ) (n : Signed) {us : List Tok} → (q ≡ 6 → (in-kind κ n && leb l (offset n)) ≡ true)
         → Goes s q ((in-kind κ n && leb l (offset n)) ≡ true) (state (high κ l ∷ E) O b T) (number n ∷ us) (state E O (field-added b κ l (offset n)) T) us
-    unfolding first-no questions token-formed grammar-allows edition-known name-bound guarded ranged share-ranged new-label within shares-add taken
+    unfolding first-no questions token-formed grammar-allows edition-known name-bound guarded ranged share-ranged new-label within-limits shares-add taken
     high-one b κ l n g = tested (in-kind κ n && leb l (offset n)) 6 (omega arith) g (λ k h.
         let w = number-kind s k n h in
         (rw (w .0, w .1) (ap (λ (c : Bool). cond (in-kind κ n && c) 0 6) (not-below (offset n) l)), ap (λ (m : Signed). state E O (field-added b κ l (offset m)) T) (w .1)))
@@ -113,7 +113,7 @@ module _ (s : List ℕ) (q : ℕ) (v : ℕ) where
         × (asked s (state (fields ∷ E) O b T) k ≡ cond (ltb (length (b .fields)) 4) 0 8)
         × (taken s (state (field ∷ E) O b T) k ≡ state (a-field (kind-code κ) E) O b T)
         × (taken s (state (fields ∷ E) O b T) k ≡ state (a-field (kind-code κ) E) O b T)
-    unfolding first-no questions token-formed grammar-allows edition-known name-bound guarded ranged share-ranged new-label within shares-add taken kind-of
+    unfolding first-no questions token-formed grammar-allows edition-known name-bound guarded ranged share-ranged new-label within-limits shares-add taken kind-of
     word-taken b int k e =
         let h : k .kind ≡ 105 = sign-kind s k 105 e in
         (rw h (and-true (ltb (length (b .fields)) 4)), rw h (and-true (ltb (length (b .fields)) 4)), rw h, rw h)
@@ -135,17 +135,17 @@ module _ (s : List ℕ) (q : ℕ) (v : ℕ) where
     -- the parenthesis that closes, and a comma between fields
     closing : (b : Branch) (k : Token) → tok-of s k ≡ sign 41
         → (asked s (state (more-fields ∷ E) O b T) k ≡ 0) × (taken s (state (more-fields ∷ E) O b T) k ≡ state E O b T)
-    unfolding first-no questions token-formed grammar-allows edition-known name-bound guarded ranged share-ranged new-label within shares-add taken
+    unfolding first-no questions token-formed grammar-allows edition-known name-bound guarded ranged share-ranged new-label within-limits shares-add taken
     closing b k e = let h : k .kind ≡ 41 = sign-kind s k 41 e in (rw h, rw h)
 
     closing-none : (b : Branch) (k : Token) → tok-of s k ≡ sign 41
         → (asked s (state (fields ∷ E) O b T) k ≡ 0) × (taken s (state (fields ∷ E) O b T) k ≡ state E O b T)
-    unfolding first-no questions token-formed grammar-allows edition-known name-bound guarded ranged share-ranged new-label within shares-add taken
+    unfolding first-no questions token-formed grammar-allows edition-known name-bound guarded ranged share-ranged new-label within-limits shares-add taken
     closing-none b k e = let h : k .kind ≡ 41 = sign-kind s k 41 e in (rw h, rw h)
 
     comma : (b : Branch) (k : Token) → tok-of s k ≡ sign 44
         → (asked s (state (more-fields ∷ E) O b T) k ≡ 0) × (taken s (state (more-fields ∷ E) O b T) k ≡ state (field ∷ E) O b T)
-    unfolding first-no questions token-formed grammar-allows edition-known name-bound guarded ranged share-ranged new-label within shares-add taken
+    unfolding first-no questions token-formed grammar-allows edition-known name-bound guarded ranged share-ranged new-label within-limits shares-add taken
     comma b k e = let h : k .kind ≡ 44 = sign-kind s k 44 e in (rw h, rw h)
 
   module _ (E : List Item) (O : List Open) (T : Table) (l o : ℕ) where
@@ -223,13 +223,13 @@ module _ (s : List ℕ) (q : ℕ) (v : ℕ) where
 
   send-one : (w : Way) (E : List Item) (O : List Open) (b : Branch) (T : Table) {us : List Tok} → (q ≡ 8 → length (T .branches) < 128)
       → Goes s q (length (T .branches) < 128) (state (just (arrow w) ∷ E) O b T) (sign (arrow w) ∷ us) (state E O b T) us
-  unfolding first-no questions token-formed grammar-allows edition-known name-bound guarded ranged share-ranged new-label within shares-add taken
+  unfolding first-no questions token-formed grammar-allows edition-known name-bound guarded ranged share-ranged new-label within-limits shares-add taken
   send-one sending E O b T g = counted (length (T .branches)) 128 g (λ k e. let h : k .kind ≡ 33 = sign-kind s k 33 e in (rw h (and-true (ltb (length (T .branches)) 128)), refl))
   send-one receiving E O b T g = counted (length (T .branches)) 128 g (λ k e. let h : k .kind ≡ 63 = sign-kind s k 63 e in (rw h (and-true (ltb (length (T .branches)) 128)), refl))
 
   label-one : (l o : ℕ) (E : List Item) (O : List Open) (b : Branch) (T : Table) {us : List Tok} → (q ≡ 7 → label-used T o l ≡ false)
       → Goes s q (label-used T o l ≡ false) (state (label ∷ E) (a-choice o ∷ O) b T) (word l ∷ us) (state E (a-choice o ∷ O) (labelled l o) T) us
-  unfolding first-no questions token-formed grammar-allows edition-known name-bound guarded ranged share-ranged new-label within shares-add taken
+  unfolding first-no questions token-formed grammar-allows edition-known name-bound guarded ranged share-ranged new-label within-limits shares-add taken
   label-one l o E O b T g =
       given s (not-true (label-used T o l)) (ap not)
       (tested (not (label-used T o l)) 7 (omega arith) (λ e. ap not (g e)) (λ k h.
@@ -239,17 +239,17 @@ module _ (s : List ℕ) (q : ℕ) (v : ℕ) where
   module _ (E : List Item) (O : List Open) (b : Branch) (T : Table) where
     share-one : (n : Signed) {us : List Tok} → (q ≡ 19 → in-share n ≡ true)
         → Goes s q (in-share n ≡ true) (state (share ∷ E) O b T) (number n ∷ us) (state E O b (add-share T (n .value))) us
-    unfolding first-no questions token-formed grammar-allows edition-known name-bound guarded ranged share-ranged new-label within shares-add taken
+    unfolding first-no questions token-formed grammar-allows edition-known name-bound guarded ranged share-ranged new-label within-limits shares-add taken
     share-one n g = tested (in-share n) 19 (omega arith) g (λ k h.
         let w = number-kind s k n h in
         (rw (w .0, w .1), ap (λ (m : Signed). state E O b (add-share T (m .value))) (w .1)))
 
     at-one : (k : Token) → tok-of s k ≡ sign 64 → (asked s (state (dot ∷ E) O b T) k ≡ 0) × (taken s (state (dot ∷ E) O b T) k ≡ state (share ∷ just 46 ∷ E) O b T)
-    unfolding first-no questions token-formed grammar-allows edition-known name-bound guarded ranged share-ranged new-label within shares-add taken
+    unfolding first-no questions token-formed grammar-allows edition-known name-bound guarded ranged share-ranged new-label within-limits shares-add taken
     at-one k e = let h : k .kind ≡ 64 = sign-kind s k 64 e in (rw h, rw h)
 
     dot-one : (k : Token) → tok-of s k ≡ sign 46 → (asked s (state (dot ∷ E) O b T) k ≡ 0) × (taken s (state (dot ∷ E) O b T) k ≡ state E O b (add-share T 0))
-    unfolding first-no questions token-formed grammar-allows edition-known name-bound guarded ranged share-ranged new-label within shares-add taken
+    unfolding first-no questions token-formed grammar-allows edition-known name-bound guarded ranged share-ranged new-label within-limits shares-add taken
     dot-one k e = let h : k .kind ≡ 46 = sign-kind s k 46 e in (rw h, rw h)
 
   -- a share or none, and the dot
@@ -279,7 +279,7 @@ module _ (s : List ℕ) (q : ℕ) (v : ℕ) where
   module _ (E : List Item) (O : List Open) (b : Branch) (T W : Table) where
     end-one : {us : List Tok} → (q ≡ 8 → length (T .sorts) < 32) → stored O b T (length (T .sorts)) ≡ W
         → Goes s q (length (T .sorts) < 32) (state (type ∷ E) O b T) (sign 101 ∷ us) (state E (closed O) empty-branch (add-state W S.ends)) us
-    unfolding first-no questions token-formed grammar-allows edition-known name-bound guarded ranged share-ranged new-label within shares-add taken began target
+    unfolding first-no questions token-formed grammar-allows edition-known name-bound guarded ranged share-ranged new-label within-limits shares-add taken began target
     end-one g e = counted (length (T .sorts)) 32 g (λ k f.
         let h : k .kind ≡ 101 = sign-kind s k 101 f in
         (rw h (and-true (ltb (length (T .sorts)) 32)), rw h (ap (λ (x : Table). state E (closed O) empty-branch (add-state x S.ends)) e)))
@@ -287,7 +287,7 @@ module _ (s : List ℕ) (q : ℕ) (v : ℕ) where
     var-one : (x : ℕ) {us : List Tok} → (q ≡ 4 → is-found (meaning O x) ≡ true) → (q ≡ 5 → unguarded O x ≡ false)
         → stored O b T (or-else (meaning O x) (length (T .sorts))) ≡ W
         → Goes s q ((is-found (meaning O x) ≡ true) × (unguarded O x ≡ false)) (state (type ∷ E) O b T) (word x ∷ us) (state E (closed O) empty-branch W) us
-    unfolding first-no questions token-formed grammar-allows edition-known name-bound guarded ranged share-ranged new-label within shares-add taken began target
+    unfolding first-no questions token-formed grammar-allows edition-known name-bound guarded ranged share-ranged new-label within-limits shares-add taken began target
     var-one x i g e = one s (λ k f.
         let w = word-kind s k x f in
         let a : asked s (state (type ∷ E) O b T) k ≡ cond (is-found (meaning O x)) (cond (not (unguarded O x)) 0 5) 4 = rw (w .0, w .1) in
@@ -303,7 +303,7 @@ module _ (s : List ℕ) (q : ℕ) (v : ℕ) where
     choice-one : (w : Way) {us : List Tok} → (q ≡ 8 → (length (T .sorts) < 32) × (length O < 16)) → stored O b T (length (T .sorts)) ≡ W
         → Goes s q ((length (T .sorts) < 32) × (length O < 16)) (state (type ∷ E) O b T) (sign (mark w) ∷ us)
         (state (just 123 ∷ a-branch (arrow w) E) (a-choice (length (W .sorts)) ∷ O) empty-branch (add-state W (way-sort w))) us
-    unfolding first-no questions token-formed grammar-allows edition-known name-bound guarded ranged share-ranged new-label within shares-add taken began target sign-of choice-sort
+    unfolding first-no questions token-formed grammar-allows edition-known name-bound guarded ranged share-ranged new-label within-limits shares-add taken began target sign-of choice-sort
     choice-one sending g e = counted-both (length (T .sorts)) 32 (length O) 16 g (λ k f.
         let h : k .kind ≡ 43 = sign-kind s k 43 f in
         (rw h, rw h (ap (λ (x : Table). state (just 123 ∷ a-branch 33 E) (a-choice (length (x .sorts)) ∷ O) empty-branch (add-state x S.sends)) e)))
@@ -314,26 +314,26 @@ module _ (s : List ℕ) (q : ℕ) (v : ℕ) where
   -- a rec and its name, where n states are there
   rec-one : (E : List Item) (O : List Open) (b : Branch) (T : Table) {us : List Tok} → (q ≡ 8 → length O < 16)
       → Goes s q (length O < 16) (state (type ∷ E) O b T) (sign 114 ∷ us) (state (name ∷ just 46 ∷ type ∷ E) O b T) us
-  unfolding first-no questions token-formed grammar-allows edition-known name-bound guarded ranged share-ranged new-label within shares-add taken
+  unfolding first-no questions token-formed grammar-allows edition-known name-bound guarded ranged share-ranged new-label within-limits shares-add taken
   rec-one E O b T g = counted (length O) 16 g (λ k f. let h : k .kind ≡ 114 = sign-kind s k 114 f in (rw h, rw h))
 
   name-one : (x n : ℕ) (E : List Item) (O : List Open) (b : Branch) (T : Table) → length (T .sorts) ≡ n → (k : Token) → tok-of s k ≡ word x
       → (asked s (state (name ∷ E) O b T) k ≡ 0) × (taken s (state (name ∷ E) O b T) k ≡ state E (a-rec x n ∷ O) b T)
-  unfolding first-no questions token-formed grammar-allows edition-known name-bound guarded ranged share-ranged new-label within shares-add taken
+  unfolding first-no questions token-formed grammar-allows edition-known name-bound guarded ranged share-ranged new-label within-limits shares-add taken
   name-one x n E O b T e k f = let w = word-kind s k x f in (rw (w .0), ap₂ (λ y m. state E (a-rec y m ∷ O) b T) (w .1) e)
 
   -- after a branch
   brace-one : (σ : ℕ) (E : List Item) (o : ℕ) (O : List Open) (b : Branch) (T : Table) {us : List Tok}
       → (q ≡ 20 → shares-right (of-choice o (T .branches) (T .shares)) ≡ true)
       → Goes s q (shares-right (of-choice o (T .branches) (T .shares)) ≡ true) (state (more σ ∷ E) (a-choice o ∷ O) b T) (sign 125 ∷ us) (state E (closed O) b T) us
-  unfolding first-no questions token-formed grammar-allows edition-known name-bound guarded ranged share-ranged new-label within shares-add choice-right taken
+  unfolding first-no questions token-formed grammar-allows edition-known name-bound guarded ranged share-ranged new-label within-limits shares-add choice-right taken
   brace-one σ E o O b T g = tested (shares-right (of-choice o (T .branches) (T .shares))) 20 (omega arith) g (λ k f.
       let h : k .kind ≡ 125 = sign-kind s k 125 f in
       (rw h, rw h))
 
   comma-one : (σ : ℕ) (E : List Item) (O : List Open) (b : Branch) (T : Table) (k : Token) → tok-of s k ≡ sign 44
       → (asked s (state (more σ ∷ E) O b T) k ≡ 0) × (taken s (state (more σ ∷ E) O b T) k ≡ state (a-branch σ E) O b T)
-  unfolding first-no questions token-formed grammar-allows edition-known name-bound guarded ranged share-ranged new-label within shares-add taken
+  unfolding first-no questions token-formed grammar-allows edition-known name-bound guarded ranged share-ranged new-label within-limits shares-add taken
   comma-one σ E O b T k f = let h : k .kind ≡ 44 = sign-kind s k 44 f in (rw h, rw h)
 
   -- ---- types

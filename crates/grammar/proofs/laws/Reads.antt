@@ -15,7 +15,7 @@ use Rattle.table.proofs.laws.Lists.{join}
 use Rattle.grammar.specs.inner.Scanner.{tokens}
 use Rattle.grammar.specs.Building.{empty-branch, stateless, Built, came, denied}
 use Rattle.grammar.specs.Filled.{came-out, filled, written}
-use Rattle.grammar.specs.Reading.{state, start, meaning, stored, closed, token-formed, grammar-allows, edition-known, name-bound, guarded, ranged, share-ranged, new-label, within, shares-add, taken, run-tokens, built, reads, questions}
+use Rattle.grammar.specs.Reading.{state, start, meaning, stored, closed, token-formed, grammar-allows, edition-known, name-bound, guarded, ranged, share-ranged, new-label, within-limits, shares-add, taken, run-tokens, built, reads, questions}
 use Rattle.grammar.specs.Grammar.{Protocol, sign, print-text, nothing-bound, edition-named, table-of, opening-legal, Legal}
 use Rattle.grammar.specs.TokOf.{tok-of}
 use Rattle.grammar.specs.inner.Writes.{Writes}
@@ -45,7 +45,7 @@ module _ (s : List ℕ) where
 
   -- the end of the text
   ends : (p : Protocol) (ks : List Token) → map (tok-of s) ks ≡ sign 0 ∷ [] → run-tokens s (state [] [] empty-branch (table-of p)) ks ≡ came 0 0 (table-of p)
-  unfolding run-tokens first-no questions token-formed grammar-allows edition-known name-bound guarded ranged share-ranged new-label within shares-add taken
+  unfolding run-tokens first-no questions token-formed grammar-allows edition-known name-bound guarded ranged share-ranged new-label within-limits shares-add taken
   ends p [] e = absurd (never-empty e)
   ends p (k ∷ []) e = let h : k .kind ≡ 0 = sign-kind s k 0 (first-is e) in rw h
   ends p (k ∷ j ∷ ks) e = absurd (never-empty (sym (rest-is e)))

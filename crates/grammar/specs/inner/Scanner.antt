@@ -60,19 +60,19 @@ word-kind w =
     (cond (same w (ascii "rec")) (K.of "rec")
     (cond (same w (ascii "int")) (K.of "int")
     (cond (same w (ascii "text")) (K.of "text")
-    (cond (same w (ascii "flag")) (K.of "flag") (cond (same w (ascii "edition")) K.edition K.malformed)))))
+    (cond (same w (ascii "flag")) (K.of "flag") (cond (same w (ascii "edition")) K.edition-word K.no-token)))))
 
 unfoldable pub word-token : List ℕ → ℕ → Token
 word-token s a = token (word-kind (part s a (run-end letter-or-digit s a))) a (run-end letter-or-digit s a)
 
 -- a name or label: one to eight bytes in all
 unfoldable pub name-token : List ℕ → ℕ → Token
-name-token s a = token (cond (leb (run-end letter-or-digit s a - a) 8) K.name K.malformed) a (run-end letter-or-digit s a)
+name-token s a = token (cond (leb (run-end letter-or-digit s a - a) 8) K.of-name K.no-token) a (run-end letter-or-digit s a)
 
 -- a number that begins at a, with digits from d up to e: 0, or digits without a leading zero; a minus may not precede 0
 unfoldable pub number-kind : List ℕ → ℕ → ℕ → ℕ → ℕ
 number-kind s a d e =
-    cond (eqb e d) K.malformed (cond (eqb (getD s d 0) 48) (cond (eqb (e - a) 1) K.number K.malformed) K.number)
+    cond (eqb e d) K.no-token (cond (eqb (getD s d 0) 48) (cond (eqb (e - a) 1) K.of-number K.no-token) K.of-number)
 
 unfoldable pub number-token : List ℕ → ℕ → ℕ → Token
 number-token s a d = token (number-kind s a d (run-end is-digit s d)) a (run-end is-digit s d)
@@ -80,29 +80,29 @@ number-token s a d = token (number-kind s a d (run-end is-digit s d)) a (run-end
 -- one dot, or two; a longer run is malformed
 unfoldable pub dots-token : List ℕ → ℕ → Token
 dots-token s a =
-    token (cond (eqb (run-end is-dot s a - a) 1) (K.of ".") (cond (eqb (run-end is-dot s a - a) 2) K.dots K.malformed)) a (run-end is-dot s a)
+    token (cond (eqb (run-end is-dot s a - a) 1) (K.of ".") (cond (eqb (run-end is-dot s a - a) 2) K.dots K.no-token)) a (run-end is-dot s a)
 
 -- the token whose first byte, at a, is of a class
 unfoldable pub begin-at : List ℕ → ℕ → Class → Token
-begin-at s a Space = token K.malformed a (a + 1)
+begin-at s a Space = token K.no-token a (a + 1)
 begin-at s a Lower = word-token s a
 begin-at s a Upper = name-token s a
 begin-at s a Digit = number-token s a a
 begin-at s a Dot = dots-token s a
 begin-at s a Minus = number-token s a (a + 1)
 begin-at s a Sign = token (getD s a 0) a (a + 1)
-begin-at s a Other = token K.malformed a (a + 1)
+begin-at s a Other = token K.no-token a (a + 1)
 
 -- the token at p, past the spaces there, or that the text ran out
 unfoldable pub token-at : List ℕ → ℕ → Token
 token-at s p =
-    cond (leb (length s) (run-end is-space s p)) (token K.ran-out (length s) (length s))
+    cond (leb (length s) (run-end is-space s p)) (token K.text-end (length s) (length s))
     (begin-at s (run-end is-space s p) (class-of (getD s (run-end is-space s p) 0)))
 
 -- the tokens from the left, the last of them that the text ran out; n bytes have at most n + 1
 unfoldable pub tokens-from : ℕ → List ℕ → ℕ → List Token
 tokens-from zero s p = []
-tokens-from (suc n) s p = token-at s p ∷ cond (eqb (token-at s p .kind) K.ran-out) [] (tokens-from n s (token-at s p .end))
+tokens-from (suc n) s p = token-at s p ∷ cond (eqb (token-at s p .kind) K.text-end) [] (tokens-from n s (token-at s p .end))
 
 unfoldable pub tokens : List ℕ → List Token
 tokens s = tokens-from (suc (length s)) s 0

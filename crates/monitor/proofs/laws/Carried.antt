@@ -23,7 +23,7 @@ use Rattle.message.proofs.laws.Message.{value-at, Whole, parts-whole, framed-fo
 use Rattle.message.proofs.claims.LabelInPlace.{label-in-place}
 use Rattle.table.specs.declared.Party.{Party}
 use Rattle.conversation.specs.Due.{first-length}
-use Rattle.monitor.specs.inner.Leaves.{branch-named, First, inside, Held, ByBranch, Straight, Leading}
+use Rattle.monitor.specs.inner.Leaves.{branch-named, First, inside, Held, ByBranch, GoesStraight, Leading}
 use Rattle.conversation.proofs.laws.Step.{all-well}
 use Rattle.monitor.proofs.laws.Judgement.{allowed-here, chosen-here}
 use Rattle.conversation.proofs.laws.Due.{all-there, first-framed}
@@ -123,7 +123,7 @@ module _ (t : List ℕ) (sound : sound-of t ≡ true) (bytes : List ℕ) (nine :
 
 -- where nothing stands behind it, and it is its side's turn
 pub straight-alone : (t : List ℕ) (i : ℕ) (message : List ℕ) (room n r : ℕ) → Leading t i message room n r → n ≡ length message
-    → (sort : ℕ) (side : Party) → is-party side (speaker (sort-of sort)) ≡ true → Straight t i sort side message room r
+    → (sort : ℕ) (side : Party) → is-party side (speaker (sort-of sort)) ≡ true → GoesStraight t i sort side message room r
 straight-alone t i message room n r x e sort side turn = record {
   turn = turn;
   asked = λ edition. all-well edition (sort-of sort) side message room (or-left (eqb edition 2) turn) formed (omega (arith, x .holds));

@@ -20,7 +20,7 @@ use Rattle.monitor.specs.declared.judge.Judged.the-variants.{Allowed, Fo
 use Rattle.conversation.specs.Step.{of-state, step-questions, Told, refusing, blaming, forwarding, judging}
 use Rattle.conversation.specs.Counts.{Counts, counts-sound, raised, raised-by, counted, counted-step}
 use Rattle.conversation.specs.inner.Keeping.{Rising}
-use Rattle.monitor.specs.inner.Leaves.{judgement, judged-branch, Selects, Settled, Straight}
+use Rattle.monitor.specs.inner.Leaves.{judgement, judged-branch, Selects, Settled, GoesStraight}
 use Rattle.conversation.proofs.laws.Step.{nine-by, opened, asked-first, asked-message, said-in-turn, said-here, refused-step, judged-as}
 use Rattle.conversation.proofs.laws.Counts.{chosen-follows, raised-at-is}
 
@@ -64,7 +64,7 @@ module _ (t : Words) (s : State) (c : Counts) (side : Party) (message out : List
     unfolding counted-step refusing counted
     way-refused p h n = rw (e, refused-step t s side message out p h n)
 
-    pub way-forwards : first-no (of-state t s) ≡ 0 → (b : ℕ) → Straight t (s .position) (sort-at t (s .position)) side message (length out) b
+    pub way-forwards : first-no (of-state t s) ≡ 0 → (b : ℕ) → GoesStraight t (s .position) (sort-at t (s .position)) side message (length out) b
         → (forwarding (target-at t b) message s out, raised c (s .position) b) ≡ counted-step t s c side message out
     unfolding counted-step judging forwarding counted raised-by
     way-forwards o b x =

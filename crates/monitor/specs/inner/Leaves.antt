@@ -94,7 +94,7 @@ pub record ByBranch (t : List ℕ) (i : ℕ) (message : List ℕ) (b : ℕ) : Ty
 
 -- at a state of this sort it is the side's turn, the message gets a yes to 12 to 15, 22 and 16 under every edition, and it is allowed, by
 -- branch b
-pub record Straight (t : List ℕ) (position sort : ℕ) (side : Party) (message : List ℕ) (room b : ℕ) : Type 0 where
+pub record GoesStraight (t : List ℕ) (position sort : ℕ) (side : Party) (message : List ℕ) (room b : ℕ) : Type 0 where
   pub turn : is-party side (speaker (sort-of sort)) ≡ true
   pub asked : (edition : ℕ) → first-no (of-message edition (sort-of sort) side message room) ≡ 0
   pub by-branch : ByBranch t position message b

@@ -12,7 +12,7 @@ use lib.ListN.{length}
 use borrow.Author.Tests.{leb-true, leb-false, lt-leb, eqb-true, eqb-false}
 use Rattle.table.specs.View.{empty-table}
 use Rattle.grammar.specs.Building.{denied}
-use Rattle.grammar.specs.Filled.{filled, written, refused}
+use Rattle.grammar.specs.Filled.{filled, written, not-read}
 use Rattle.grammar.specs.Grammar.{Protocol, table-of}
 use Rattle.grammar.specs.Reading.{start, run-tokens, built, reads}
 use Rattle.grammar.specs.declared.Reading.{Reading}
@@ -27,17 +27,17 @@ use Rattle.spelling.proofs.laws.Writes.{writes-spelt}
 -- ---- any text
 
 -- a no gives the empty table
-denied-refused : (q at : ℕ) → written (denied q at) ≡ refused q at
-unfolding denied refused filled empty-table
+denied-refused : (q at : ℕ) → written (denied q at) ≡ not-read q at
+unfolding denied not-read filled empty-table
 denied-refused q at = refl
 
-no-table : (s : List ℕ) → (reads s .question ≡ 0 → ⊥) → reads s ≡ refused (reads s .question) (reads s .at)
+no-table : (s : List ℕ) → (reads s .question ≡ 0 → ⊥) → reads s ≡ not-read (reads s .question) (reads s .at)
 unfolding reads built denied
 no-table s n = go (leb (length s) 8192) n
   where
     go : (b : Bool) → (cond b (run-tokens s start (tokens s)) (denied 1 0) .question ≡ 0 → ⊥)
         → written (cond b (run-tokens s start (tokens s)) (denied 1 0))
-        ≡ refused (cond b (run-tokens s start (tokens s)) (denied 1 0) .question) (cond b (run-tokens s start (tokens s)) (denied 1 0) .at)
+        ≡ not-read (cond b (run-tokens s start (tokens s)) (denied 1 0) .question) (cond b (run-tokens s start (tokens s)) (denied 1 0) .at)
     go true n = ap written (run-refused s (tokens s) start n) ∙ denied-refused _ _
     go false n = denied-refused 1 0
 
@@ -64,7 +64,7 @@ pub read-or-refused : ReadOrRefused
 read-or-refused s = go (eqb (reads s .question) 0) refl (question-of Known numbers (inr (inl (omega arith, omega arith))) s)
   where
     go : (b : Bool) → eqb (reads s .question) 0 ≡ b → Known (reads s .question)
-        → (reads s .question ≡ 0) ⊎ ((q : ℕ) × (at : ℕ) × Refusing q × (reads s ≡ refused q at))
+        → (reads s .question ≡ 0) ⊎ ((q : ℕ) × (at : ℕ) × Refusing q × (reads s ≡ not-read q at))
     go b e (inl z) = inl z
     go true e (inr r) = inl (eqb-true (reads s .question) 0 e)
     go false e (inr r) = inr (reads s .question, reads s .at, r, no-table s (eqb-false (reads s .question) 0 e))
@@ -86,13 +86,13 @@ not-one = (
 )
 
 pub one-means : OneMeans
-unfolding reads built refused denied
+unfolding reads built not-read denied
 one-means s at = (
   λ h. long (leb (length s) 8192) refl h,
-  λ x. ap (λ b. written (cond b (run-tokens s start (tokens s)) (denied 1 0))) (lt-leb (length s) 8192 (x .0)) ∙ denied-refused 1 0 ∙ ap (refused 1) (sym (x .1)),
+  λ x. ap (λ b. written (cond b (run-tokens s start (tokens s)) (denied 1 0))) (lt-leb (length s) 8192 (x .0)) ∙ denied-refused 1 0 ∙ ap (not-read 1) (sym (x .1)),
 )
   where
-    long : (b : Bool) → leb (length s) 8192 ≡ b → written (cond b (run-tokens s start (tokens s)) (denied 1 0)) ≡ refused 1 at → (8192 < length s) × (at ≡ 0)
+    long : (b : Bool) → leb (length s) 8192 ≡ b → written (cond b (run-tokens s start (tokens s)) (denied 1 0)) ≡ not-read 1 at → (8192 < length s) × (at ≡ 0)
     long true e h = absurd (run-number (λ q. q ≡ 1 → ⊥) not-one s start (tokens s) (ap (λ (r : Reading). r .question) h))
     long false e h = (leb-false (length s) 8192 e, sym (ap (λ (r : Reading). r .at) h))
 

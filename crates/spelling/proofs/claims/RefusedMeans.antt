@@ -15,8 +15,8 @@ use Rattle.table.proofs.laws.Lists.{never}
 use Rattle.grammar.specs.Token.{token}
 use Rattle.grammar.specs.inner.Scanner.{tokens}
 use Rattle.grammar.specs.Building.{denied}
-use Rattle.grammar.specs.Filled.{refused, written}
-use Rattle.grammar.specs.Reading.{State, token-formed, grammar-allows, edition-known, name-bound, guarded, ranged, share-ranged, new-label, within, shares-add, questions, start, run-tokens, built, reads}
+use Rattle.grammar.specs.Filled.{not-read, written}
+use Rattle.grammar.specs.Reading.{State, token-formed, grammar-allows, edition-known, name-bound, guarded, ranged, share-ranged, new-label, within-limits, shares-add, questions, start, run-tokens, built, reads}
 use Rattle.grammar.proofs.laws.Questions.{asked}
 use Rattle.grammar.specs.Grammar.{Protocol, Tok, word, number, sign, print-text}
 use Rattle.grammar.specs.TokOf.{tok-of}
@@ -58,10 +58,10 @@ before-same : (s : List ℕ) (p : ℕ) (a b : At s p) (ts : List Tok) → upto-b
 before-same s p a b ts = ap (λ ks. map (tok-of s) ks ++ ts) (at-once s p a b .0)
 
 pub refused-means : RefusedMeans
-unfolding refused denied
-refused-means s q p l h = let r = read-placed s (refused q p) .0 h in go (r .0) (r .1) (leb (length s) 8192) (r .2)
+unfolding not-read denied
+refused-means s q p l h = let r = read-placed s (not-read q p) .0 h in go (r .0) (r .1) (leb (length s) 8192) (r .2)
   where
-    go : (ks : List Token) → Placed s 0 ks → (b : Bool) → written (cond b (run-tokens s start ks) (denied 1 0)) ≡ refused q p
+    go : (ks : List Token) → Placed s 0 ks → (b : Bool) → written (cond b (run-tokens s start ks) (denied 1 0)) ≡ not-read q p
         → At s p × ((a : At s p) (u : List ℕ) (ts : List Tok) → Spelt u (upto-here a ts) → reads u .question ≡ 0 → ⊥)
     go ks pl false e = let z : _≡_ {A = ℕ} 1 q = ap (λ (r : Reading). r .question) e in absurd (omega arith)
     go ks pl true e =
@@ -82,7 +82,7 @@ two-asked : (s : List ℕ) (st : State) (k : Token) → asked s st k ≡ 2 → k
 unfolding questions first-no token-formed
 two-asked s st k e =
     eqb-true (k .kind) 1
-    (go (eqb (k .kind) 1) (grammar-allows s st k) (edition-known s st k) (name-bound s st k) (guarded s st k) (ranged s st k) (share-ranged s st k) (new-label s st k) (within s st k) (shares-add s st k) e)
+    (go (eqb (k .kind) 1) (grammar-allows s st k) (edition-known s st k) (name-bound s st k) (guarded s st k) (ranged s st k) (share-ranged s st k) (new-label s st k) (within-limits s st k) (shares-add s st k) e)
   where
     go : (a b m c d e x f g y : Bool)
         → first-no ((2, not a) ∷ (3, b) ∷ (23, m) ∷ (4, c) ∷ (5, d) ∷ (6, e) ∷ (19, x) ∷ (7, f) ∷ (8, g) ∷ (20, y) ∷ []) ≡ 2 → a ≡ true
@@ -99,10 +99,10 @@ two-asked s st k e =
     go false true true true true true true true true true h = absurd (omega arith)
 
 pub two-means : TwoMeans
-unfolding refused denied
-two-means s p h a = let r = read-placed s (refused 2 p) .0 h in go (r .0) (r .1) (leb (length s) 8192) (r .2)
+unfolding not-read denied
+two-means s p h a = let r = read-placed s (not-read 2 p) .0 h in go (r .0) (r .1) (leb (length s) 8192) (r .2)
   where
-    go : (ks : List Token) → Placed s 0 ks → (b : Bool) → written (cond b (run-tokens s start ks) (denied 1 0)) ≡ refused 2 p → a .here .kind ≡ 1
+    go : (ks : List Token) → Placed s 0 ks → (b : Bool) → written (cond b (run-tokens s start ks) (denied 1 0)) ≡ not-read 2 p → a .here .kind ≡ 1
     go ks pl false e = let z : _≡_ {A = ℕ} 1 2 = ap (λ (r : Reading). r .question) e in absurd (omega arith)
     go ks pl true e =
         let z : run-tokens s start ks .question ≡ 2 = ap (λ (r : Reading). r .question) e in

@@ -14,7 +14,7 @@ use Rattle.grammar.specs.TokOf.{tok-of}
 use Rattle.grammar.proofs.laws.TokOf.{tag, sign-in}
 use Rattle.spelling.specs.Spelling.{Spelt}
 use Rattle.spelling.specs.Scanned.{WellFormed}
-use Rattle.spelling.specs.SpellingExamples.{plus, unopened, P-type, two-shares, Examples}
+use Rattle.spelling.specs.SpellingExamples.{plus, unopened, P-type, two-shares, SpellingExamples}
 use Rattle.spelling.proofs.claims.SpeltScanned.{spelt-scanned}
 use Rattle.spelling.proofs.laws.WellFormed.{text-formed}
 
@@ -31,7 +31,7 @@ second-bad s t us ts e sp = let h = spelt-scanned s ts .0 sp in formed (sym (h .
     formed : {ts : List Tok} → ts ≡ t ∷ sign 1 ∷ us → WellFormed ts → ⊥
     formed e w = (rw e at w) .1 .0 refl
 
-pub examples : Examples
+pub examples : SpellingExamples
 unfolding same matched letter-or-digit class-of run-of run-end word-kind word-token name-token number-kind number-token dots-token begin-at token-at tokens-from tokens word-of packed signed-of value-of tok-of
 examples = record {
   protocol = spelt-scanned _ _ .1 (refl, text-formed (unopened P-type));

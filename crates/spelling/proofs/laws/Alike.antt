@@ -15,7 +15,7 @@ use Rattle.grammar.specs.Number.{Signed, signed-in, offset, in-kind, in-share, 
 use Rattle.grammar.specs.Grammar.{Tok, word, number, sign, or-else}
 use Rattle.grammar.specs.TokOf.{tok-of}
 use Rattle.grammar.specs.Building.{label-used, denied}
-use Rattle.grammar.specs.Reading.{Item, outset, edition, just, name, label, type, more, fields, field, low, high, more-fields, dot, share, Open, State, state, open-in, table-in, is-a, next-item, meaning, unguarded, owner-in, admits, as-type, is-found, number-in-range, token-formed, grammar-allows, edition-known, name-bound, guarded, ranged, share-ranged, new-label, within, shares-add, target, began, taken, run-tokens, questions}
+use Rattle.grammar.specs.Reading.{Item, outset, edition, just, name, label, type, more, fields, field, low, high, more-fields, dot, share, Open, State, state, open-in, table-in, is-a, next-item, meaning, unguarded, owner-in, admits, as-type, is-found, number-in-range, token-formed, grammar-allows, edition-known, name-bound, guarded, ranged, share-ranged, new-label, within-limits, shares-add, target, began, taken, run-tokens, questions}
 use Rattle.grammar.specs.declared.token.Token.{Token}
 use Rattle.grammar.proofs.laws.TokOf.{word-kind, number-kind, kind-word, kind-number}
 use Rattle.grammar.proofs.laws.RunTokens.{first-is, rest-is, never-empty, passed}
@@ -167,8 +167,8 @@ module _ (s u : List ℕ) (k j : Token) (same : tok-of s k ≡ tok-of u j) where
   unfolding grammar-allows new-label
   new-same st a = label-same (next-item st) (table-in st) (owner-in (open-in st)) a
 
-  within-same : (st : State) → within s st k ≡ within u st j
-  unfolding within
+  within-same : (st : State) → within-limits s st k ≡ within-limits u st j
+  unfolding within-limits
   within-same st = rw kind-same
 
   added-same : (st : State) → shares-add s st k ≡ shares-add u st j
@@ -180,7 +180,7 @@ module _ (s u : List ℕ) (k j : Token) (same : tok-of s k ≡ tok-of u j) where
   asked-same st =
       rw (formed-same st, named-same st, guarded-same st, within-same st, added-same st)
       (behind (token-formed u st j)
-      (λ v r x n. cond v (cond (name-bound u st j) (cond (guarded u st j) (cond r (cond x (cond n (cond (within u st j) (cond (shares-add u st j) 0 20) 8) 7) 19) 6) 5) 4) 23)
+      (λ v r x n. cond v (cond (name-bound u st j) (cond (guarded u st j) (cond r (cond x (cond n (cond (within-limits u st j) (cond (shares-add u st j) 0 20) 8) 7) 19) 6) 5) 4) 23)
       (grammar-allows s st k) (grammar-allows u st j) (edition-known s st k) (edition-known u st j) (ranged s st k) (ranged u st j) (share-ranged s st k) (share-ranged u st j) (new-label s st k) (new-label u st j) (allowed-same st)
       (known-same st) (ranged-same st) (shared-same st) (new-same st))
     where

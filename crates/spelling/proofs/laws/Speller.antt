@@ -17,7 +17,7 @@ use Rattle.grammar.specs.Token.{one-of, packed, word-of}
 use Rattle.grammar.specs.Number.{Signed, value-of}
 use Rattle.grammar.specs.Grammar.{Protocol, Tok, word, number, sign, print-text}
 use Rattle.table.specs.Ascii.{ascii, letters, digits}
-use Rattle.spelling.specs.Spelling.{a-digit, dot, sign-tokens, dot-tokens, word-tokens, Listed, Digits, Spells, a-sign, a-dot, a-word, a-name, a-zero, a-number, a-negative, Spelt, ran-out, a-blank, a-token}
+use Rattle.spelling.specs.Spelling.{a-digit, dot-byte, sign-tokens, dot-tokens, word-tokens, Listed, Digits, Spells, a-sign, a-dot, a-word, a-name, a-zero, a-number, a-negative, Spelt, ran-out, a-blank, a-token}
 use Rattle.spelling.specs.Speller.{beside, bytes, spelling, spell, Writable, Spellable}
 use Rattle.spelling.proofs.laws.Classes.{kinds, beside-listed}
 use Rattle.spelling.proofs.laws.Prints.{fixed, text-holds}
@@ -180,7 +180,7 @@ fixed-spelled : (k : ℕ) → one-of fixed k ≡ true → Spelled (sign k)
 unfolding letter-or-digit
 fixed-spelled k e =
     either-list sign-tokens (dot-tokens ++ word-tokens) k P e (λ w l. ((λ b. false), a-sign l, refl))
-    (λ e. either-list dot-tokens word-tokens k P e (λ w l. (dot, a-dot l, refl)) (λ e. (letter-or-digit, a-word (beside-listed word-tokens k e), refl)))
+    (λ e. either-list dot-tokens word-tokens k P e (λ w l. (dot-byte, a-dot l, refl)) (λ e. (letter-or-digit, a-word (beside-listed word-tokens k e), refl)))
   where
     P : List ℕ → Type 0
     P w = (more : ℕ → Bool) × Spells (sign k) w more × (more 32 ≡ false)

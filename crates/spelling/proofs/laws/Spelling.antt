@@ -24,7 +24,7 @@ use Rattle.grammar.proofs.laws.RunOf.{run-on, run-off, run-out}
 use Rattle.grammar.proofs.laws.TokenAt.{onward}
 use Rattle.grammar.proofs.laws.TokOf.{tag, sign-in, kind-sign}
 use Rattle.table.specs.Ascii.{ascii}
-use Rattle.spelling.specs.Spelling.{a-digit, dot, blank, sign-tokens, dot-tokens, word-tokens, Listed, Spells, a-sign, a-dot, a-word, a-name, a-zero, a-number, a-negative, EndsRun, Spelt, ran-out, a-blank, a-token}
+use Rattle.spelling.specs.Spelling.{a-digit, dot-byte, blank, sign-tokens, dot-tokens, word-tokens, Listed, Spells, a-sign, a-dot, a-word, a-name, a-zero, a-number, a-negative, EndsRun, Spelt, ran-out, a-blank, a-token}
 use Rattle.spelling.specs.Places.{Begins}
 use Rattle.spelling.specs.Scanned.{WellFormed}
 use Rattle.spelling.proofs.laws.Classes.{Seen, seen, space-blank}
@@ -222,9 +222,9 @@ module _ (s : List ℕ) (p b : ℕ) (v : List ℕ) (e : drop p s ≡ b ∷ v) wh
 
   dot-begins : b ≡ 46 → (dots-token s p .kind ≡ 1 → ⊥) → Begins (b ∷ v)
   unfolding dots-token every
-  dot-begins d h = go (split dot v)
+  dot-begins d h = go (split dot-byte v)
     where
-      go : Split dot v → Begins (b ∷ v)
+      go : Split dot-byte v → Begins (b ∷ v)
       go m = count (m .front) refl
         where
           is : (w : List ℕ) → m .front ≡ w → v ≡ w ++ m .rest
@@ -232,13 +232,13 @@ module _ (s : List ℕ) (p b : ℕ) (v : List ℕ) (e : drop p s ≡ b ∷ v) wh
 
           count : (w : List ℕ) → m .front ≡ w → Begins (b ∷ v)
           count [] g =
-              record { t = sign 46; w = ascii "."; more = dot; rest = m .rest; spells = a-dot (inl (refl, refl)); ends = m .ends; is = ap₂ _∷_ d (is [] g) }
+              record { t = sign 46; w = ascii "."; more = dot-byte; rest = m .rest; spells = a-dot (inl (refl, refl)); ends = m .ends; is = ap₂ _∷_ d (is [] g) }
           count (c ∷ []) g =
-              let c-is : c ≡ 46 = eqb-true c 46 (both (eqb c 46) true (subst (λ (l : List ℕ). every dot l ≡ true) g (m .all)) .0) in
+              let c-is : c ≡ 46 = eqb-true c 46 (both (eqb c 46) true (subst (λ (l : List ℕ). every dot-byte l ≡ true) g (m .all)) .0) in
               record {
                 t = sign 58;
                 w = ascii "..";
-                more = dot;
+                more = dot-byte;
                 rest = m .rest;
                 spells = a-dot (inr (inl (refl, refl)));
                 ends = m .ends;
@@ -248,7 +248,7 @@ module _ (s : List ℕ) (p b : ℕ) (v : List ℕ) (e : drop p s ≡ b ∷ v) wh
               let n : length (b ∷ m .front) ≡ suc (suc (suc (length w))) = ap (λ (l : List ℕ). length (b ∷ l)) g in
               let z : p + length (b ∷ m .front) - p ≡ length (b ∷ m .front) = omega arith in
               absurd
-              (h (rw (size dot m (eq-eqb b 46 d), z, ne-eqb (length (b ∷ m .front)) 1 (λ q. omega arith), ne-eqb (length (b ∷ m .front)) 2 (λ q. omega arith))))
+              (h (rw (size dot-byte m (eq-eqb b 46 d), z, ne-eqb (length (b ∷ m .front)) 1 (λ q. omega arith), ne-eqb (length (b ∷ m .front)) 2 (λ q. omega arith))))
 
   pub begins : (x : Class) → Seen b x → (begin-at s p x .kind ≡ 1 → ⊥) → Begins (b ∷ v)
   unfolding begin-at

@@ -25,7 +25,7 @@ use Rattle.grammar.proofs.laws.ClassOf.{code, upper-word}
 use Rattle.grammar.proofs.laws.RunOf.{run-off}
 use Rattle.grammar.proofs.laws.TokOf.{kind-sign, kind-word, kind-number}
 use Rattle.table.specs.Ascii.{ascii}
-use Rattle.spelling.specs.Spelling.{a-digit, dot, sign-tokens, dot-tokens, word-tokens, Listed, Spells, a-sign, a-dot, a-word, a-name, a-zero, a-number, a-negative, EndsRun}
+use Rattle.spelling.specs.Spelling.{a-digit, dot-byte, sign-tokens, dot-tokens, word-tokens, Listed, Spells, a-sign, a-dot, a-word, a-name, a-zero, a-number, a-negative, EndsRun}
 use Rattle.spelling.specs.Places.{kind-in}
 use Rattle.spelling.proofs.laws.Classes.{class-upper, class-digit, space-code}
 
@@ -116,7 +116,7 @@ abbrev IsSign : ℕ → List ℕ → Type 0
 IsSign k w = (w ≡ k ∷ []) × (class-of k ≡ Sign) × Plain k
 
 abbrev IsDot : ℕ → List ℕ → Type 0
-IsDot k w = (every dot w ≡ true) × (class-of (getD w 0 0) ≡ Dot) × (cond (eqb (length w) 1) 46 (cond (eqb (length w) 2) 58 1) ≡ k) × Plain k
+IsDot k w = (every dot-byte w ≡ true) × (class-of (getD w 0 0) ≡ Dot) × (cond (eqb (length w) 1) 46 (cond (eqb (length w) 2) 58 1) ≡ k) × Plain k
 
 abbrev IsWord : ℕ → List ℕ → Type 0
 IsWord k w = (every letter-or-digit w ≡ true) × (class-of (getD w 0 0) ≡ Lower) × (word-kind w ≡ k) × Plain k
@@ -167,12 +167,12 @@ module _ (s : List ℕ) (p : ℕ) where
         let n : length w ≡ 1 = ap length (h .0) in
         rw n (found-sign k 1 (starts s p (k ∷ []) r d Sign (h .1) refl ∙ ap (λ (b : ℕ). token b p (p + 1)) (byte-here s p k r d)) (h .2))
 
-    dot-found : (k : ℕ) → IsDot k w → EndsRun dot r → Found s p (sign k) (length w)
+    dot-found : (k : ℕ) → IsDot k w → EndsRun dot-byte r → Found s p (sign k) (length w)
     unfolding begin-at dots-token
     dot-found k h o =
         let z : p + length w - p ≡ length w = omega arith in
         found-sign k (length w)
-        (starts s p w r e Dot (h .1) refl ∙ rw (run-here s p w r e dot (h .0) o, z) (ap (λ (k : ℕ). token k p (p + length w)) (h .2))) (h .3)
+        (starts s p w r e Dot (h .1) refl ∙ rw (run-here s p w r e dot-byte (h .0) o, z) (ap (λ (k : ℕ). token k p (p + length w)) (h .2))) (h .3)
 
     word-found : (k : ℕ) → IsWord k w → EndsRun letter-or-digit r → Found s p (sign k) (length w)
     unfolding begin-at word-token

@@ -14,7 +14,7 @@ use borrow.Author.Tests.{eqb-true, eq-eqb}
 use Rattle.bits.specs.Digits.{digit, With}
 use Rattle.bits.proofs.laws.Digits.{with-same, lt-or-ge, same-or}
 use Rattle.table.specs.View.{owner-at, word-at}
-use Rattle.table.specs.inner.Scans.{twins, alone, mark-of}
+use Rattle.table.specs.inner.Scans.{twins, no-twin, mark-of}
 use Rattle.table.proofs.laws.Lists.{alike, both, join, all-by, refuted}
 
 -- mark m is in the filter
@@ -70,7 +70,7 @@ filter-none e = record { size = e; held = λ j l. absurd (not-suc-le-zero l) }
 
 module _ (t seen : List ℕ) (k : ℕ) (f : Filter t seen k) where
   -- a branch with a new mark is alone
-  new-mark : (marked seen (mark-of (owner-at t k) (word-at t k)) ≡ 1 → ⊥) → alone t k ≡ true
+  new-mark : (marked seen (mark-of (owner-at t k) (word-at t k)) ≡ 1 → ⊥) → no-twin t k ≡ true
   unfolding twins
   new-mark n = all-by (λ j. not (twins t k j)) k (λ j l. ap not (refuted (twins t k j) (λ e. n (seen-it j l e))))
     where
@@ -82,7 +82,7 @@ module _ (t seen : List ℕ) (k : ℕ) (f : Filter t seen k) where
 
   -- so is one whose mark changes the filter
   pub changed : (q r : ℕ) → q ≡ mark-of (owner-at t k) (word-at t k) → With (getD seen (q / 32) 0) (q % 32) r
-      → (r ≡ getD seen (q / 32) 0 → ⊥) → alone t k ≡ true
+      → (r ≡ getD seen (q / 32) 0 → ⊥) → no-twin t k ≡ true
   unfolding marked
   changed q r e w n = new-mark (λ h. n (with-same w (ap (marked seen) e ∙ h)))
 

@@ -16,7 +16,7 @@ use Rattle.table.specs.declared.branches.Passed.{Passed}
 use Rattle.table.specs.Lists.{every, some-one, upto, same, matched}
 use Rattle.table.specs.Table.{is-choice, legal-label, legal-field, legal-branch, clash, labels-differ, choices-own}
 use Rattle.table.specs.View.{states-of, branches-of, sort-at, owner-at, target-at, count-at, word-at, label-of, sort-of, field-at, edition-of, branch-at, view, known, regular-of, sound-of}
-use Rattle.table.specs.inner.Scans.{all, alone, twins, legal-at, in-place, in-order, Word, Members, PassedBranches, Choices}
+use Rattle.table.specs.inner.Scans.{all, no-twin, twins, legal-at, in-place, in-order, Word, Members, PassedBranches, Choices}
 use Rattle.table.proofs.laws.Lists.{never, both, join, or-right, implied, implies, refuted, alike, all-at, all-by, all-both, upto-length, every-upto, upto-every}
 use Rattle.table.proofs.laws.LegalLabel.{byte, label-bytes}
 use Rattle.table.specs.Table as T
@@ -374,17 +374,17 @@ module _ (t : List ℕ) where
   -- ---- twins
 
   module _ where
-    pub alone-differ : all (branches-of t) (alone t) ≡ true
+    pub alone-differ : all (branches-of t) (no-twin t) ≡ true
         → (i j : ℕ) → i < j → j < branches-of t → owner-at t i ≡ owner-at t j → word-at t i ≡ word-at t j → ⊥
     unfolding twins
     alone-differ a i j l m p q =
         false≢true (sym (ap not (join (eq-eqb (owner-at t i) (owner-at t j) p) (eq-eqb (word-at t i) (word-at t j) q)))
-        ∙ all-at (λ i. not (twins t j i)) j (all-at (alone t) (branches-of t) a j m) i l)
+        ∙ all-at (λ i. not (twins t j i)) j (all-at (no-twin t) (branches-of t) a j m) i l)
 
-    pub differ-alone : Facts t → all (branches-of t) (alone t) ≡ true
+    pub differ-alone : Facts t → all (branches-of t) (no-twin t) ≡ true
     unfolding twins
     differ-alone f =
-        all-by (alone t) (branches-of t)
+        all-by (no-twin t) (branches-of t)
         (λ j m. all-by (λ i. not (twins t j i)) j
         (λ i l. ap not (refuted (twins t j i)
         (λ e.
@@ -420,26 +420,26 @@ module _ (t : List ℕ) (m k : ℕ) where
       let p = in-place-parts e in
       ⊎-elim (λ (x : m ≤ owner-at t k). omega (arith, p .0)) (λ y. ⊎-elim (λ (x : m ≤ target-at t k). omega (arith, p .1)) (λ (x : 4 < count-at t k). omega (arith, p .2)) y) h)
 
-  pub in-order-parts : in-order t m k ≡ true → (in-place t m k ≡ true) × (legal-label (label-of (word-at t k)) ≡ true) × (alone t k ≡ true)
+  pub in-order-parts : in-order t m k ≡ true → (in-place t m k ≡ true) × (legal-label (label-of (word-at t k)) ≡ true) × (no-twin t k ≡ true)
   unfolding in-order
   in-order-parts e =
-      let p = both (in-place t m k && legal-label (label-of (word-at t k))) (alone t k) e in
+      let p = both (in-place t m k && legal-label (label-of (word-at t k))) (no-twin t k) e in
       let q = both (in-place t m k) (legal-label (label-of (word-at t k))) (p .0) in
       (q .0, q .1, p .1)
 
-  pub in-order-by : in-place t m k ≡ true → legal-label (label-of (word-at t k)) ≡ true → alone t k ≡ true → in-order t m k ≡ true
+  pub in-order-by : in-place t m k ≡ true → legal-label (label-of (word-at t k)) ≡ true → no-twin t k ≡ true → in-order t m k ≡ true
   unfolding in-order
   in-order-by a b c = join (join a b) c
 
 -- a pass for each matter
 module _ (t : List ℕ) (n m : ℕ) where
-  split : all n (in-order t m) ≡ (all n (in-place t m) && all n (λ k. legal-label (label-of (word-at t k))) && all n (alone t))
+  split : all n (in-order t m) ≡ (all n (in-place t m) && all n (λ k. legal-label (label-of (word-at t k))) && all n (no-twin t))
   unfolding in-order
   split =
-      all-both (λ k. in-place t m k && legal-label (label-of (word-at t k))) (alone t) n
-      ∙ ap (λ b. b && all n (alone t)) (all-both (in-place t m) (λ k. legal-label (label-of (word-at t k))) n)
+      all-both (λ k. in-place t m k && legal-label (label-of (word-at t k))) (no-twin t) n
+      ∙ ap (λ b. b && all n (no-twin t)) (all-both (in-place t m) (λ k. legal-label (label-of (word-at t k))) n)
 
-  pub passed-places : {b : Bool} → b ≡ all n (in-place t m) → all n (λ k. legal-label (label-of (word-at t k))) ≡ true → all n (alone t) ≡ true
+  pub passed-places : {b : Bool} → b ≡ all n (in-place t m) → all n (λ k. legal-label (label-of (word-at t k))) ≡ true → all n (no-twin t) ≡ true
       → b ≡ all n (in-order t m)
   passed-places {b} e p q = e ∙ sym (split ∙ ap₂ (λ x y. all n (in-place t m) && x && y) p q ∙ and-true (all n (in-place t m)))
     where
@@ -468,8 +468,8 @@ module _ (t : List ℕ) (n m : ℕ) where
     stopped-label e =
         stopped-all (λ h. never (all-by (λ k. legal-label (label-of (word-at t k))) n (λ k l. in-order-parts t m k (all-at (in-order t m) n h k l) .1)) e)
 
-    pub stopped-twin : all n (alone t) ≡ false → PassedBranches t n m r
-    stopped-twin e = stopped-all (λ h. never (all-by (alone t) n (λ k l. in-order-parts t m k (all-at (in-order t m) n h k l) .2)) e)
+    pub stopped-twin : all n (no-twin t) ≡ false → PassedBranches t n m r
+    stopped-twin e = stopped-all (λ h. never (all-by (no-twin t) n (λ k l. in-order-parts t m k (all-at (in-order t m) n h k l) .2)) e)
 
 pub codes-all : (t : List ℕ) → Facts t → all (states-of t) (λ k. leb (sort-at t k) 2) ≡ true
 codes-all t f = all-by (λ k. leb (sort-at t k) 2) (states-of t) (λ k l. le-leb (sort-at t k) 2 (f .codes k l))
@@ -479,7 +479,7 @@ order-all t f =
     all-by (in-order t (states-of t)) (branches-of t)
     (λ k l. in-order-by t (states-of t) k
     (in-place-rest t (states-of t) k (f .owners k l) (f .targets k l) (f .counts k l) ∙ all-by (λ i. legal-at t (4 * k + i)) (count-at t k) (f .ranges k l))
-    (f .labels k l) (all-at (alone t) (branches-of t) (differ-alone t f) k l))
+    (f .labels k l) (all-at (no-twin t) (branches-of t) (differ-alone t f) k l))
 
 pub owners-below : (t : List ℕ) (n m : ℕ) (r : Passed) → PassedBranches t n m r → r .ok ≡ true → (k : ℕ) → k < n → owner-at t k < m
 owners-below t n m r p ok k l =
@@ -496,7 +496,7 @@ passed t r c some few room codes s p ok =
     ap (λ b. b && T.shares-kept (view t))
     (alike (known t && T.sound (view t)) (eqb (r .set) c) (λ h. eq-eqb (r .set) c (facts-sets t (r .set) c (p .owners ok) s (facts t h))) sound)
   where
-    at : (k : ℕ) → k < branches-of t → (in-place t (states-of t) k ≡ true) × (legal-label (label-of (word-at t k)) ≡ true) × (alone t k ≡ true)
+    at : (k : ℕ) → k < branches-of t → (in-place t (states-of t) k ≡ true) × (legal-label (label-of (word-at t k)) ≡ true) × (no-twin t k ≡ true)
     at k l = in-order-parts t (states-of t) k (all-at (in-order t (states-of t)) (branches-of t) (sym (p .tells) ∙ ok) k l)
 
     place : (k : ℕ) → k < branches-of t
@@ -523,5 +523,5 @@ passed t r c some few room codes s p ok =
           ranges = λ k l. all-at (λ f. legal-at t (4 * k + f)) (count-at t k) (place k l .3);
           no-end = sets-no-end t (r .set) c (p .owners ok) s e below;
           own = sets-own t (r .set) c (p .owners ok) s e below;
-          differ = alone-differ t (all-by (alone t) (branches-of t) (λ k l. at k l .2));
+          differ = alone-differ t (all-by (no-twin t) (branches-of t) (λ k l. at k l .2));
         })

@@ -11,7 +11,7 @@ use borrow.Author.Tests.{eq-eqb, eqb-true, eqb-false, lt-leb, ltb-true, ltb-fals
 use Rattle.table.proofs.laws.Lists.{both, never}
 use Rattle.grammar.specs.Token.{one-of, token}
 use Rattle.grammar.specs.inner.Scanner.{signs, is-space, is-dot, class-of, run-end, dots-token, begin-at, token-at}
-use Rattle.text.specs.inner.Recursive.{step, unexpected-at, passed, expect-at, is-at, next-token, next-of, next-at}
+use Rattle.text.specs.inner.Recursive.{step-answer, unexpected-at, passed, expect-at, is-at, next-token, next-of, next-at}
 use Rattle.grammar.specs.declared.token.Token.{Token}
 use Rattle.text.specs.declared.step.Next.{Next}
 use Rattle.text.specs.declared.step.Step.{Step}
@@ -71,15 +71,15 @@ module _ (s : List ℕ) where
 
   -- ---- passing over it
 
-  pub sign-passed : (p b : ℕ) → is-at s p b ≡ true → one-of signs b ≡ true → step 0 (p + 1) ≡ expect-at s p b
+  pub sign-passed : (p b : ℕ) → is-at s p b ≡ true → one-of signs b ≡ true → step-answer 0 (p + 1) ≡ expect-at s p b
   unfolding expect-at passed
   sign-passed p b e g = rw (sign-here p b e g, eq-eqb b b refl)
 
-  pub dot-passed : (p : ℕ) → is-at s p 46 ≡ true → is-at s (p + 1) 46 ≡ false → step 0 (p + 1) ≡ expect-at s p 46
+  pub dot-passed : (p : ℕ) → is-at s p 46 ≡ true → is-at s (p + 1) 46 ≡ false → step-answer 0 (p + 1) ≡ expect-at s p 46
   unfolding expect-at passed
   dot-passed p e f = rw (dot-here p e f)
 
-  pub dots-passed : (p : ℕ) → is-at s p 46 ≡ true → is-at s (p + 1) 46 ≡ true → is-at s (p + 2) 46 ≡ false → step 0 (p + 2) ≡ expect-at s p 58
+  pub dots-passed : (p : ℕ) → is-at s p 46 ≡ true → is-at s (p + 1) 46 ≡ true → is-at s (p + 2) 46 ≡ false → step-answer 0 (p + 2) ≡ expect-at s p 58
   unfolding expect-at passed
   dots-passed p e f g = rw (dots-here p e f g)
 
@@ -112,8 +112,8 @@ module _ (s : List ℕ) where
           let x = go (eqb (k .kind) n) refl (ap (λ (r : Step). r .question) (sym e) ∙ z) in
           (x .0, ap (λ (r : Step). r .at) e ∙ x .1)
         where
-          go : (t : Bool) → eqb (k .kind) n ≡ t → cond t (step 0 (k .end)) (unexpected-at k) .question ≡ 0
-              → (k .kind ≡ n) × (cond t (step 0 (k .end)) (unexpected-at k) .at ≡ k .end)
+          go : (t : Bool) → eqb (k .kind) n ≡ t → cond t (step-answer 0 (k .end)) (unexpected-at k) .question ≡ 0
+              → (k .kind ≡ n) × (cond t (step-answer 0 (k .end)) (unexpected-at k) .at ≡ k .end)
           go true f z = (eqb-true _ _ f, refl)
           go false f z = absurd (eqb-false _ _ (no-zero k) z)
 
@@ -123,8 +123,8 @@ module _ (s : List ℕ) where
           let x = go (eqb (k .kind) n) refl (λ y. z (ap (λ (r : Step). r .question) e ∙ y)) in
           (x .0, e ∙ x .1)
         where
-          go : (t : Bool) → eqb (k .kind) n ≡ t → (cond t (step 0 (k .end)) (unexpected-at k) .question ≡ 0 → ⊥)
-              → (k .kind ≡ n → ⊥) × (cond t (step 0 (k .end)) (unexpected-at k) ≡ unexpected-at k)
+          go : (t : Bool) → eqb (k .kind) n ≡ t → (cond t (step-answer 0 (k .end)) (unexpected-at k) .question ≡ 0 → ⊥)
+              → (k .kind ≡ n → ⊥) × (cond t (step-answer 0 (k .end)) (unexpected-at k) ≡ unexpected-at k)
           go true f z = absurd (z refl)
           go false f z = (eqb-false _ _ f, refl)
 
@@ -137,15 +137,15 @@ module _ (s : List ℕ) where
       answered = e
 
       pub next-no : (r .question ≡ 0 → ⊥)
-          → (token-at s q .kind ≡ n → ⊥) × (token-at s q .kind ≡ 44 → ⊥) × (step (r .question) (r .at) ≡ unexpected-at (token-at s q))
+          → (token-at s q .kind ≡ n → ⊥) × (token-at s q .kind ≡ 44 → ⊥) × (step-answer (r .question) (r .at) ≡ unexpected-at (token-at s q))
       unfolding answer k
       next-no z = go (eqb (k .kind) n) refl (eqb (k .kind) 44) refl answered
         where
           go : (t : Bool) → eqb (k .kind) n ≡ t → (u : Bool) → eqb (k .kind) 44 ≡ u → r ≡ answer t u
-              → (k .kind ≡ n → ⊥) × (k .kind ≡ 44 → ⊥) × (step (r .question) (r .at) ≡ unexpected-at k)
+              → (k .kind ≡ n → ⊥) × (k .kind ≡ 44 → ⊥) × (step-answer (r .question) (r .at) ≡ unexpected-at k)
           go true f u g e = absurd (z (ap (λ (r : Next). r .question) e))
           go false f true g e = absurd (z (ap (λ (r : Next). r .question) e))
-          go false f false g e = (eqb-false _ _ f, eqb-false _ _ g, ap (λ (r : Next). step (r .question) (r .at)) e)
+          go false f false g e = (eqb-false _ _ f, eqb-false _ _ g, ap (λ (r : Next). step-answer (r .question) (r .at)) e)
 
       module _ (z : r .question ≡ 0) where
         pub next-last : r .more ≡ false → (token-at s q .kind ≡ n) × (r .at ≡ token-at s q .end)

@@ -12,8 +12,8 @@ use Rattle.table.specs.Lists.{upto}
 use Rattle.table.specs.View.{label-of}
 use Rattle.grammar.specs.Number.{signed-in, offset, in-kind}
 use Rattle.grammar.specs.Building.{labelled, field-added, denied, Built}
-use Rattle.grammar.specs.Reading.{Item, just, fields, field, low, high, more-fields, Open, state, next-item, within, kind-of, a-field}
-use Rattle.text.specs.inner.Recursive.{step, unexpected-at, passed, expect-at, bound-made, bounded, bound-at, range, after-step, after-bound, range-at, no-fields, with-field, placed, with-range, fielded, read-field, end-of-field, field-then, fields-from, fields-at, branch-of, then-read, with-fields}
+use Rattle.grammar.specs.Reading.{Item, just, fields, field, low, high, more-fields, Open, state, next-item, within-limits, kind-of, a-field}
+use Rattle.text.specs.inner.Recursive.{step-answer, unexpected-at, passed, expect-at, bound-made, bounded, bound-at, range, after-step, after-bound, range-at, no-fields, with-field, placed, with-range, fielded, read-field, end-of-field, field-then, fields-from, fields-at, branch-of, then-read, with-fields}
 use Rattle.grammar.specs.declared.token.Token.{Token}
 use Rattle.text.specs.declared.step.Step.{Step}
 use Rattle.text.specs.declared.field.Bound.{Bound}
@@ -57,7 +57,7 @@ no-zero k = go (eqb (k .kind) 1)
 module _ (s : List ℕ) (O : List Open) (T : Table) where
   -- a token of one kind that counts for no limit
   pub plain : (n : ℕ) (K : List Item) (b : Branch) (p : ℕ) → (n ≡ 0 → ⊥) → (n ≡ 1 → ⊥)
-      → (token-at s p .kind ≡ n → within s (state (just n ∷ K) O b T) (token-at s p) ≡ true)
+      → (token-at s p .kind ≡ n → within-limits s (state (just n ∷ K) O b T) (token-at s p) ≡ true)
       → at s (state (just n ∷ K) O b T) p ≡ then-read (expect-at s p n) (λ q. at s (state K O b T) q)
   unfolding expect-at passed
   plain n K b p z y w = at-token s (state (just n ∷ K) O b T) p ∙ sign-step s K O b T k n true z y w ∙ go (eqb (k .kind) n)
@@ -65,7 +65,7 @@ module _ (s : List ℕ) (O : List Open) (T : Table) where
       k : Token
       k = token-at s p
 
-      go : (x : Bool) → cond x (at s (state K O b T) (k .end)) (wrong k) ≡ then-read (cond x (step 0 (k .end)) (unexpected-at k)) (λ q. at s (state K O b T) q)
+      go : (x : Bool) → cond x (at s (state K O b T) (k .end)) (wrong k) ≡ then-read (cond x (step-answer 0 (k .end)) (unexpected-at k)) (λ q. at s (state K O b T) q)
       go true = refl
       go false = rw (no-zero k)
 
@@ -104,7 +104,7 @@ module _ (s : List ℕ) (O : List Open) (T : Table) where
 
   -- [ low .. high ]
   range-law : (κ : ℕ) (K : List Item) (b : Branch) (p : ℕ) → at s (state (a-field κ K) O b T) p ≡ on-range (range-at s p κ) (λ q l h. at s (state (more-fields ∷ K) O (field-added b κ l h) T) q)
-  unfolding range-at within
+  unfolding range-at within-limits
   range-law κ K b p =
       plain 91 (low κ ∷ just 93 ∷ more-fields ∷ K) b p (λ x. omega arith) (λ x. omega arith) (λ h. rw h)
       ∙ ap (then-read (expect-at s p 91)) (fun-ext (λ q.
@@ -248,7 +248,7 @@ module _ (s : List ℕ) (O : List Open) (T : Table) (K : List Item) (l o : ℕ) 
 
   -- ( fields )
   pub fields-law : (p : ℕ) → at s (state (just 40 ∷ fields ∷ K) O (labelled l o) T) p ≡ with-fields (fields-at s p) (λ g. at s (state K O (with' g) T) (g .at))
-  unfolding fields-at no-fields within goes upto
+  unfolding fields-at no-fields within-limits goes upto
   fields-law p = plain s O T 40 (fields ∷ K) b p (λ x. omega arith) (λ x. omega arith) (λ h. rw h) ∙ go (eqb (x .question) 0) refl
     where
       b : Branch

@@ -7,7 +7,7 @@ use borrow.Author.Tests.{eq-eqb, ne-eqb, eqb-false, lt-leb}
 use Rattle.table.specs.Table.{Table}
 use Rattle.grammar.specs.Building.{add-branch, add-share, Built, came, denied}
 use Rattle.grammar.specs.inner.Holds.{Holds}
-use Rattle.text.specs.inner.Recursive.{Gives, step, unexpected-at, fields-at, shared-at, label-at, branch-of, body-at, headed, head-at, unless}
+use Rattle.text.specs.inner.Recursive.{Gives, step-answer, unexpected-at, fields-at, shared-at, label-at, branch-of, body-at, headed, head-at, unless}
 use Rattle.grammar.specs.declared.token.Token.{Token}
 use Rattle.grammar.specs.inner.Scanner.{token-at}
 use Rattle.text.specs.declared.step.Step.{Step}
@@ -17,14 +17,14 @@ use Rattle.text.specs.declared.step.Name.{Name}
 use Rattle.text.proofs.laws.FieldsAt.{no-zero}
 
 -- a refusal; at a token that the grammar does not allow; a reading
-pub gives-refused : (R : Built) (r : Step) (w : List ℕ) (q at : ℕ) → R ≡ denied q at → r ≡ step q at → (q ≡ 0 → ⊥) → Gives R r w
+pub gives-refused : (R : Built) (r : Step) (w : List ℕ) (q at : ℕ) → R ≡ denied q at → r ≡ step-answer q at → (q ≡ 0 → ⊥) → Gives R r w
 unfolding denied
 gives-refused R r w q at e f z = rw (e, f) (record { question = refl; at = refl; table = λ y. absurd (z y) })
 
 pub gives-wrong : (R : Built) (r : Step) (w : List ℕ) (k : Token) → r ≡ unexpected-at k → R ≡ denied (unexpected-at k .question) (unexpected-at k .at) → Gives R r w
 gives-wrong R r w k f e = gives-refused R r w (unexpected-at k .question) (unexpected-at k .at) e f (eqb-false _ _ (no-zero k))
 
-pub gives-read : (R : Built) (r : Step) (w : List ℕ) (T : Table) (at : ℕ) → r ≡ step 0 at → R ≡ came 0 at T → Holds w T → Gives R r w
+pub gives-read : (R : Built) (r : Step) (w : List ℕ) (T : Table) (at : ℕ) → r ≡ step-answer 0 at → R ≡ came 0 at T → Holds w T → Gives R r w
 gives-read R r w T at f e h = rw (e, f) (record { question = refl; at = refl; table = λ y. h })
 
 -- what is defined in another way

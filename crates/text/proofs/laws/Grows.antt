@@ -14,7 +14,7 @@ use Rattle.grammar.specs.Token.{word-in}
 use Rattle.grammar.specs.inner.Scanner.{token-at}
 use Rattle.grammar.specs.Building.{add-state, add-branch, add-share, choice-right, came, denied, Built}
 use Rattle.grammar.specs.Reading.{low, sign-of, choice-sort}
-use Rattle.text.specs.inner.Recursive.{unexpected-at, expect-at, fields-at, shared-at, bound-in, bind-in, find, since, open-rec, label-at, branch-of, then-read, with-fields, with-count, body-at, headed, head-at, aim-last, name-used, name-type, end-type, open-choice, Reader, unless, end-of-branch, branch-then, branches, choice-type, rec-type, read-type, Env}
+use Rattle.text.specs.inner.Recursive.{unexpected-at, expect-at, fields-at, shared-at, bound-in, bind-in, find, since, open-rec, label-at, branch-of, then-read, with-fields, with-count, body-at, headed, head-at, aim-last, name-used, name-type, end-type, open-choice, Reader, unless, end-of-branch, branch-then, branches-read, choice-type, rec-type, read-type, Env}
 use Rattle.grammar.specs.declared.token.Token.{Token}
 use Rattle.text.specs.declared.step.Step.{Step}
 use Rattle.text.specs.declared.field.Fields.{Fields}
@@ -124,10 +124,10 @@ branch-grows inner g s σ o e p T more follow =
     ends : ℕ → Table → Built
     ends r v = end-of-branch (token-at s r) o v more
 
-branches-grow : (inner : Reader) → Growing inner → (s : List ℕ) (σ o : ℕ) (e : Env) (n p : ℕ) (T : Table) → Grows (length (T .branches)) (branches inner s σ o e n p T)
-unfolding branches
+branches-grow : (inner : Reader) → Growing inner → (s : List ℕ) (σ o : ℕ) (e : Env) (n p : ℕ) (T : Table) → Grows (length (T .branches)) (branches-read inner s σ o e n p T)
+unfolding branches-read
 branches-grow inner g s σ o e zero p T = eight-grows (length (T .branches)) p
-branches-grow inner g s σ o e (suc n) p T = branch-grows inner g s σ o e p T (branches inner s σ o e n) (branches-grow inner g s σ o e n)
+branches-grow inner g s σ o e (suc n) p T = branch-grows inner g s σ o e p T (branches-read inner s σ o e n) (branches-grow inner g s σ o e n)
 
 module _ (d : ℕ) (s : List ℕ) (down : (d ≡ 0 → ⊥) → Growing (read-type (d - 1) s)) (p g : ℕ) (e : Env) (T : Table) (r : length (T .branches) ≤ 128) where
   type-grow : Grows (length (T .branches)) (read-type d s p g e T)
@@ -159,7 +159,7 @@ module _ (d : ℕ) (s : List ℕ) (down : (d ≡ 0 → ⊥) → Growing (read-ty
       go (first-choice h) false f =
           let O = open-choice s k T in
           by (choice-type (read-type (d - 1) s) s k e T) (at-choice d s p g e T k refl h (eqb-false _ _ f))
-          (unless-grows (length (T .branches)) O (λ q u. branches (read-type (d - 1) s) s (sign-of (k .kind)) (length (T .sorts)) e 129 q u) (λ z.
+          (unless-grows (length (T .branches)) O (λ q u. branches-read (read-type (d - 1) s) s (sign-of (k .kind)) (length (T .sorts)) e 129 q u) (λ z.
           let c = (cond-grows (length (T .branches)) (leb 32 (length (T .sorts))) (eight-grows (length (T .branches)) (k .start)) (then-grows (length (T .branches)) (expect-at s (k .end) 123) (λ q. came 0 q (add-state T (choice-sort (k .kind)))) (λ q. record { within = λ y. (le-refl _, r) }))) .within z in
           let c₀ = c .0 in
           weaken (length (T .branches)) (length (O .table .branches)) _ c₀ (branches-grow (read-type (d - 1) s) (down (eqb-false _ _ f)) s (sign-of (k .kind)) (length (T .sorts)) e 129 (O .at) (O .table))))

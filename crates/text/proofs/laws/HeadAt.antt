@@ -18,7 +18,7 @@ use Rattle.grammar.specs.Filled.{code-of}
 use Rattle.text.specs.inner.Stores.{put-state, put-branch, put-target, any-label}
 use Rattle.grammar.specs.Reading.{choice-sort}
 use Rattle.grammar.specs.inner.Holds.{Holds}
-use Rattle.text.specs.inner.Recursive.{Gives, step, unexpected-at, expect-at, fields-at, shared-at, find, since, name-read, label-from, label-at, branch-of, raw-of, body-at, headed, head-at, aim-last, name-type, end-type, open-choice, Env}
+use Rattle.text.specs.inner.Recursive.{Gives, step-answer, unexpected-at, expect-at, fields-at, shared-at, find, since, name-read, label-from, label-at, branch-of, raw-of, body-at, headed, head-at, aim-last, name-type, end-type, open-choice, Env}
 use Rattle.grammar.specs.declared.token.Token.{Token}
 use Rattle.text.specs.declared.step.Step.{Step}
 use Rattle.text.specs.declared.field.Fields.{Fields}
@@ -67,17 +67,17 @@ module _ (w : List ℕ) (T : Table) (H : Holds w T) where
 
   -- ---- end, and a choice up to its brace
 
-  pub end-full : (k : Token) (r : Step) (v : List ℕ) → 32 ≤ states-of w → r ≡ step 8 (k .start) → Gives (end-type k T) r v
+  pub end-full : (k : Token) (r : Step) (v : List ℕ) → 32 ≤ states-of w → r ≡ step-answer 8 (k .start) → Gives (end-type k T) r v
   unfolding end-type
   end-full k r v h f = gives-refused _ r v 8 (k .start) (rw (states-full h)) f (λ z. omega arith)
 
-  pub end-read : (k : Token) (r : Step) (v : List ℕ) → states-of w < 32 → v ≡ put-state w 0 → r ≡ step 0 (k .end) → Gives (end-type k T) r v
+  pub end-read : (k : Token) (r : Step) (v : List ℕ) → states-of w < 32 → v ≡ put-state w 0 → r ≡ step-answer 0 (k .end) → Gives (end-type k T) r v
   unfolding end-type
   end-read k r v h e f =
       gives-read _ r v (add-state T S.ends) (k .end) f (rw (lt-leb _ _ (states-room h)))
       (subst (λ x. Holds x (add-state T S.ends)) (sym e) (holds-state w T H S.ends (states-room h)))
 
-  pub open-full : (s : List ℕ) (k : Token) (r : Step) (v : List ℕ) → 32 ≤ states-of w → r ≡ step 8 (k .start) → Gives (open-choice s k T) r v
+  pub open-full : (s : List ℕ) (k : Token) (r : Step) (v : List ℕ) → 32 ≤ states-of w → r ≡ step-answer 8 (k .start) → Gives (open-choice s k T) r v
   unfolding open-choice
   open-full s k r v h f = gives-refused _ r v 8 (k .start) (rw (states-full h)) f (λ z. omega arith)
 
@@ -91,23 +91,23 @@ module _ (w : List ℕ) (T : Table) (H : Holds w T) where
   unfolding open-choice
   open-read s k r v n h e z c f =
       let U = add-state T (choice-sort (k .kind)) in
-      gives-read _ r v U (r .at) (ap (λ q. step q (r .at)) z) (rw (lt-leb _ _ (states-room h), ← e, eq-eqb _ _ z))
+      gives-read _ r v U (r .at) (ap (λ q. step-answer q (r .at)) z) (rw (lt-leb _ _ (states-room h), ← e, eq-eqb _ _ z))
       (subst (λ x. Holds x U) (sym (f ∙ ap (put-state w) c)) (holds-state w T H (choice-sort (k .kind)) (states-room h)))
 
   -- ---- a name as a type
 
   module _ (s : List ℕ) (k : Token) (g : ℕ) (e : Env) (r : Step) where
-    pub name-unbound : (v : List ℕ) → find e (word-in s k) ≡ none → r ≡ step 4 (k .start) → Gives (name-type s k g e T) r v
+    pub name-unbound : (v : List ℕ) → find e (word-in s k) ≡ none → r ≡ step-answer 4 (k .start) → Gives (name-type s k g e T) r v
     unfolding name-type
     name-unbound v f q = gives-refused _ r v 4 (k .start) (rw f) q (λ z. omega arith)
 
-    pub name-bare : (n : ℕ) (v : List ℕ) → find e (word-in s k) ≡ some n → since e g (word-in s k) ≡ true → r ≡ step 5 (k .start)
+    pub name-bare : (n : ℕ) (v : List ℕ) → find e (word-in s k) ≡ some n → since e g (word-in s k) ≡ true → r ≡ step-answer 5 (k .start)
         → Gives (name-type s k g e T) r v
     unfolding name-type
     name-bare n v f b q = gives-refused _ r v 5 (k .start) (rw (f, b)) q (λ z. omega arith)
 
     pub name-done : (n : ℕ) (v : List ℕ) → v ≡ put-target w n → find e (word-in s k) ≡ some n → since e g (word-in s k) ≡ false
-        → r ≡ step 0 (k .end) → Gives (name-type s k g e T) r v
+        → r ≡ step-answer 0 (k .end) → Gives (name-type s k g e T) r v
     unfolding name-type
     name-done n v v-is f b q =
         gives-read _ r v (aim-last T n) (k .end) q (rw (f, b)) (subst (λ x. Holds x (aim-last T n)) (sym v-is) (holds-target w T H n))
@@ -144,13 +144,13 @@ module _ (w : List ℕ) (T : Table) (H : Holds w T) where
 
   module _ (s : List ℕ) (p e o : ℕ) (r : Step) where
     pub close-right : (c : Bool) → c ≡ shares-right (of-choice o (upto (branches-of w) (branch-at w)) (upto (branches-of w) (share-at w)))
-        → c ≡ true → r ≡ step 0 e → r ≡ cond (choice-right T o) (step 0 e) (step 20 (token-at s p .start))
+        → c ≡ true → r ≡ step-answer 0 e → r ≡ cond (choice-right T o) (step-answer 0 e) (step-answer 20 (token-at s p .start))
     close-right c f t g = rw (shares-told o c f, t) g
 
     pub close-wrong : (c : Bool) → c ≡ shares-right (of-choice o (upto (branches-of w) (branch-at w)) (upto (branches-of w) (share-at w)))
-        → c ≡ false → (k : Token) → k ≡ token-at s p → r ≡ step 20 (k .start)
-        → r ≡ cond (choice-right T o) (step 0 e) (step 20 (token-at s p .start))
-    close-wrong c f t k here g = rw (shares-told o c f, t) (g ∙ ap (λ (k : Token). step 20 (k .start)) here)
+        → c ≡ false → (k : Token) → k ≡ token-at s p → r ≡ step-answer 20 (k .start)
+        → r ≡ cond (choice-right T o) (step-answer 0 e) (step-answer 20 (token-at s p .start))
+    close-wrong c f t k here g = rw (shares-told o c f, t) (g ∙ ap (λ (k : Token). step-answer 20 (k .start)) here)
 
   -- ---- a branch up to its type
 
@@ -163,7 +163,7 @@ module _ (w : List ℕ) (T : Table) (H : Holds w T) where
       sign : token-at s p .kind ≡ σ
       sign = expect-yes s p σ b b-is b-read .0
 
-      pub head-full : (k : Token) (r : Step) (v : List ℕ) → k ≡ token-at s p → 128 ≤ branches-of w → r ≡ step 8 (k .start) → Gives (head-at s p σ o T) r v
+      pub head-full : (k : Token) (r : Step) (v : List ℕ) → k ≡ token-at s p → 128 ≤ branches-of w → r ≡ step-answer 8 (k .start) → Gives (head-at s p σ o T) r v
       unfolding head-at headed
       head-full k r v here h f =
           gives-refused _ r v 8 (k .start) (rw (eq-eqb _ _ sign, branches-full h, here)) f (λ z. omega arith)
@@ -173,27 +173,27 @@ module _ (w : List ℕ) (T : Table) (H : Holds w T) where
         labelled-so : l ≡ label-at s (token-at s p .end) T o
         labelled-so = l-is T H (holds-branches w T H) ∙ ap (λ q. label-at s q T o) (expect-yes s p σ b b-is b-read .1)
 
-        pub head-label : (r : Step) (v : List ℕ) → (l .question ≡ 0 → ⊥) → r ≡ step (l .question) (l .at) → Gives (head-at s p σ o T) r v
+        pub head-label : (r : Step) (v : List ℕ) → (l .question ≡ 0 → ⊥) → r ≡ step-answer (l .question) (l .at) → Gives (head-at s p σ o T) r v
         unfolding head-at headed body-at
         head-label r v z f =
             gives-refused _ r v (l .question) (l .at) (rw (eq-eqb _ _ sign, lt-leb _ _ (branches-room h), ← labelled-so, ne-eqb _ _ z)) f z
 
         module _ (l-read : l .question ≡ 0) (f : Fields) (f-is : f ≡ fields-at s (l .at)) where
-          pub head-fields : (r : Step) (v : List ℕ) → (f .question ≡ 0 → ⊥) → r ≡ step (f .question) (f .at) → Gives (head-at s p σ o T) r v
+          pub head-fields : (r : Step) (v : List ℕ) → (f .question ≡ 0 → ⊥) → r ≡ step-answer (f .question) (f .at) → Gives (head-at s p σ o T) r v
           unfolding head-at headed body-at
           head-fields r v z g =
               gives-refused _ r v (f .question) (f .at)
               (rw (eq-eqb _ _ sign, lt-leb _ _ (branches-room h), ← labelled-so, eq-eqb _ _ l-read, ← f-is, ne-eqb _ _ z)) g z
 
           module _ (f-read : f .question ≡ 0) (x : Counted) (x-is : x ≡ shared-at s (f .at)) where
-            pub head-share : (r : Step) (v : List ℕ) → (x .question ≡ 0 → ⊥) → r ≡ step (x .question) (x .at) → Gives (head-at s p σ o T) r v
+            pub head-share : (r : Step) (v : List ℕ) → (x .question ≡ 0 → ⊥) → r ≡ step-answer (x .question) (x .at) → Gives (head-at s p σ o T) r v
             unfolding head-at headed body-at
             head-share r v z g =
                 gives-refused _ r v (x .question) (x .at)
                 (rw (eq-eqb _ _ sign, lt-leb _ _ (branches-room h), ← labelled-so, eq-eqb _ _ l-read, ← f-is, eq-eqb _ _ f-read, ← x-is, ne-eqb _ _ z)) g z
 
             pub head-done : (b : Branch) (r : Step) (v : List ℕ) → x .question ≡ 0
-                → b ≡ raw-of (l .word) o (states-of w) (x .number) f → v ≡ put-branch w b → r ≡ step 0 (x .at) → Gives (head-at s p σ o T) r v
+                → b ≡ raw-of (l .word) o (states-of w) (x .number) f → v ≡ put-branch w b → r ≡ step-answer 0 (x .at) → Gives (head-at s p σ o T) r v
             head-done b r v z b-is v-is g =
                 let n = length (T .sorts) in
                 let U = add-share (add-branch T (branch-of (l .word) o n f)) (x .number) in

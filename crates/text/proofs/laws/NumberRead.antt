@@ -14,7 +14,7 @@ use borrow.Author.Tests.{eq-eqb, ne-eqb, ltb-false, le-leb, lt-leb, le-ltb, leb-
 use Rattle.table.specs.Table.{legal-field, within-kind, known-edition}
 use Rattle.table.proofs.laws.Lists.{join, never, left-fails, right-fails}
 use Rattle.grammar.specs.Number.{Signed, signed-of, value-of, offset, in-kind, in-count, in-edition}
-use Rattle.text.specs.inner.Recursive.{number, number-read, no-fields, read-field, field-then, fields-from}
+use Rattle.text.specs.inner.Recursive.{number-answer, number-read, no-fields, read-field, field-then, fields-from}
 use Rattle.text.specs.declared.number.Number.{Number}
 use Rattle.text.specs.declared.field.Fields.{Fields}
 
@@ -97,7 +97,7 @@ pub kept-in : (κ : ℕ) (n : Signed) {r : Number} → r ≡ number-read κ n �
 unfolding number-read
 kept-in κ n {r} e o = go (in-kind κ n) e
   where
-    go : (b : Bool) → r ≡ cond b (number true (offset n)) (number false 0) → (b ≡ true) × (r .offset ≡ offset n)
+    go : (b : Bool) → r ≡ cond b (number-answer true (offset n)) (number-answer false 0) → (b ≡ true) × (r .offset ≡ offset n)
     go true e = (refl, ap (λ (x : Number). x .offset) e)
     go false e = never o (ap (λ (x : Number). x .ok) e)
 
@@ -105,7 +105,7 @@ pub kept-out : (κ : ℕ) (n : Signed) {r : Number} → r ≡ number-read κ n �
 unfolding number-read
 kept-out κ n {r} e o = go (in-kind κ n) e
   where
-    go : (b : Bool) → r ≡ cond b (number true (offset n)) (number false 0) → b ≡ false
+    go : (b : Bool) → r ≡ cond b (number-answer true (offset n)) (number-answer false 0) → b ≡ false
     go true e = never (ap (λ (x : Number). x .ok) e) o
     go false e = refl
 

@@ -14,7 +14,7 @@ use Rattle.grammar.specs.Building.{stateless, Built, denied}
 use Rattle.grammar.specs.Filled.{came-out, filled, written}
 use Rattle.grammar.specs.Reading.{run-tokens, start, built, reads}
 use Rattle.grammar.specs.inner.Holds.{Holds}
-use Rattle.text.specs.inner.Recursive.{Gives, step, unexpected-at, empty-env, unless, read-type, count-from, edition-at, opening-from, opening-of, end-of-text, read-text, Env}
+use Rattle.text.specs.inner.Recursive.{Gives, step-answer, unexpected-at, empty-env, unless, read-type, count-from, edition-at, opening-from, opening-of, end-of-text, read-text, Env}
 use Rattle.grammar.specs.declared.token.Token.{Token}
 use Rattle.text.specs.declared.step.Step.{Step}
 use Rattle.text.specs.declared.count.Counted.{Counted}
@@ -55,11 +55,11 @@ module _ (s : List ℕ) (r : Step) (w : List ℕ) (g : Gives (built s) r w) wher
   place-fits = omega (arith, g .at, place-small s)
 
 -- an edition that was read, in the empty table; and one that was refused
-module _ (s : List ℕ) (p : ℕ) (e : Counted) (is : e ≡ count-from 2 23 s (token-at s p)) (r : Step) (r-is : r ≡ step (e .question) (e .at)) where
+module _ (s : List ℕ) (p : ℕ) (e : Counted) (is : e ≡ count-from 2 23 s (token-at s p)) (r : Step) (r-is : r ≡ step-answer (e .question) (e .at)) where
   pub edition-read : (w : List ℕ) → e .question ≡ 0 → w ≡ set empty-table 2338 (e .number) → Gives (edition-at s p) r w
   unfolding edition-at
   edition-read w z w-is =
-      gives-read _ r w (stateless (e .number)) (e .at) (r-is ∙ ap (λ q. step q (e .at)) z) (rw (← is, eq-eqb _ _ z)) (rw w-is (holds-edition (e .number)))
+      gives-read _ r w (stateless (e .number)) (e .at) (r-is ∙ ap (λ q. step-answer q (e .at)) z) (rw (← is, eq-eqb _ _ z)) (rw w-is (holds-edition (e .number)))
 
   pub edition-refused : (w : List ℕ) → (e .question ≡ 0 → ⊥) → Gives (edition-at s p) r w
   unfolding edition-at
@@ -71,11 +71,11 @@ module _ (s : List ℕ) (k : Token) (first : k ≡ token-at s 0) where
   unfolding opening-from
   opening-read h r w g = gives-by _ _ r w (rw (← first, eq-eqb _ _ h)) g
 
-  pub opening-none : (k .kind ≡ 69 → ⊥) → (w : List ℕ) → w ≡ set empty-table 2338 1 → Gives (opening-of s) (step 0 0) w
+  pub opening-none : (k .kind ≡ 69 → ⊥) → (w : List ℕ) → w ≡ set empty-table 2338 1 → Gives (opening-of s) (step-answer 0 0) w
   unfolding opening-from
-  opening-none h w w-is = gives-read _ (step 0 0) w (stateless 1) 0 refl (rw (← first, ne-eqb _ _ h)) (rw w-is (holds-edition 1))
+  opening-none h w w-is = gives-read _ (step-answer 0 0) w (stateless 1) 0 refl (rw (← first, ne-eqb _ _ h)) (rw w-is (holds-edition 1))
 
-pub text-long : (s : List ℕ) (w : List ℕ) → 8192 < length s → Gives (built s) (step 1 0) w
+pub text-long : (s : List ℕ) (w : List ℕ) → 8192 < length s → Gives (built s) (step-answer 1 0) w
 unfolding built
 text-long s w h = gives-refused _ _ w 1 0 (rw (lt-leb (length s) 8192 h)) refl (λ z. omega arith)
 
@@ -119,6 +119,6 @@ module _ (s : List ℕ) (short : length s ≤ 8192) (o : Step) (v : List ℕ) (o
       unfolding end-of-text
       text-wrong u n f = gives-wrong _ u w k f (text-on ∙ rw (ne-eqb _ _ n))
 
-      pub text-read : k .kind ≡ 0 → Gives (built s) (step 0 0) w
+      pub text-read : k .kind ≡ 0 → Gives (built s) (step-answer 0 0) w
       unfolding end-of-text
-      text-read n = gives-read _ (step 0 0) w (R .table) 0 refl (text-on ∙ rw (eq-eqb _ _ n)) (type-gives .table z)
+      text-read n = gives-read _ (step-answer 0 0) w (R .table) 0 refl (text-on ∙ rw (eq-eqb _ _ n)) (type-gives .table z)

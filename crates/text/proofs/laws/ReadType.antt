@@ -19,8 +19,8 @@ use Rattle.grammar.specs.Grammar.{or-else}
 use Rattle.grammar.specs.Number.{signed-in, in-count}
 use Rattle.grammar.specs.Building.{stateless, set-edition, empty-branch, labelled, aimed, add-state, add-branch, add-share, label-used, choice-right, came, denied, Built}
 use Rattle.grammar.specs.Filled.{written}
-use Rattle.grammar.specs.Reading.{Item, edition, just, name, label, type, more, fields, dot, Open, a-rec, a-choice, State, state, meaning, unguarded, closed, token-formed, grammar-allows, edition-known, is-found, name-bound, guarded, ranged, share-ranged, new-label, within, shares-add, sign-of, choice-sort, a-branch, stored, taken, run-tokens, start, built, reads, questions}
-use Rattle.text.specs.inner.Recursive.{count-read, count-from, edition-at, opening-from, opening-of, label-from, name-read, unexpected-at, expect-at, fields-at, shared-at, empty-env, Room, bound-in, bind-in, find-in, find, since-in, since, rec-named, open-rec, label-at, branch-of, then-read, with-fields, with-count, body-at, headed, head-at, last-aimed, aim-last, name-used, name-type, end-type, open-choice, unless, end-of-branch, branch-then, branches, choice-type, rec-type, read-type, end-of-text, read-text, Env}
+use Rattle.grammar.specs.Reading.{Item, edition, just, name, label, type, more, fields, dot, Open, a-rec, a-choice, State, state, meaning, unguarded, closed, token-formed, grammar-allows, edition-known, is-found, name-bound, guarded, ranged, share-ranged, new-label, within-limits, shares-add, sign-of, choice-sort, a-branch, stored, taken, run-tokens, start, built, reads, questions}
+use Rattle.text.specs.inner.Recursive.{count-read, count-from, edition-at, opening-from, opening-of, label-from, name-read, unexpected-at, expect-at, fields-at, shared-at, empty-env, Room, bound-in, bind-in, find-in, find, since-in, since, rec-named, open-rec, label-at, branch-of, then-read, with-fields, with-count, body-at, headed, head-at, last-aimed, aim-last, name-used, name-type, end-type, open-choice, unless, end-of-branch, branch-then, branches-read, choice-type, rec-type, read-type, end-of-text, read-text, Env}
 use Rattle.grammar.specs.declared.token.Token.{Token}
 use Rattle.text.specs.declared.step.Step.{Step}
 use Rattle.text.specs.declared.field.Fields.{Fields}
@@ -91,7 +91,7 @@ unless-wrong k g = rw (no-zero k)
 
 brace : (s : List ℕ) (K : List Item) (O : List Open) (b : Branch) (T : Table) (p : ℕ)
     → at s (state (just 123 ∷ K) O b T) p ≡ then-read (expect-at s p 123) (λ q. at s (state K O b T) q)
-unfolding within
+unfolding within-limits
 brace s K O b T p = plain s O T 123 K b p (λ x. omega arith) (λ x. omega arith) (λ h. rw h)
 
 -- ! or ?: the branches are counted there
@@ -108,8 +108,8 @@ kept true = refl
 kept false = refl
 
 counted : (s : List ℕ) (σ : ℕ) (K : List Item) (O : List Open) (b : Branch) (T : Table) (k : Token) → OneOf (33 ∷ 63 ∷ []) σ → k .kind ≡ σ
-    → within s (state K O b T) k ≡ ltb (length (T .branches)) 128
-unfolding within
+    → within-limits s (state K O b T) k ≡ ltb (length (T .branches)) 128
+unfolding within-limits
 counted s σ K O b T k (inl h) e = rw (e ∙ h) (kept (ltb (length (T .branches)) 128))
 counted s σ K O b T k (inr h) e = rw (e ∙ h) (kept (ltb (length (T .branches)) 128))
 
@@ -284,11 +284,11 @@ module _ (d : ℕ) (s : List ℕ) (law : TypeLaw d s) (σ o : ℕ) (sg : OneOf (
 -- The room n is never used up: a table holds 128 branches.
 branches-law : (n d : ℕ) (s : List ℕ) (law : TypeLaw d s) (σ o : ℕ) → OneOf (33 ∷ 63 ∷ []) σ → (e : Env) (O : List Open) → Inside e (bound-in e) (a-choice o ∷ O) d
     → (K : List Item) (p : ℕ) (T : Table) → length (T .branches) ≤ 128 → 128 < n + length (T .branches)
-    → at s (state (a-branch σ K) (a-choice o ∷ O) empty-branch T) p ≡ unless (branches (read-type d s) s σ o e n p T) (goes s K O)
-unfolding branches
+    → at s (state (a-branch σ K) (a-choice o ∷ O) empty-branch T) p ≡ unless (branches-read (read-type d s) s σ o e n p T) (goes s K O)
+unfolding branches-read
 branches-law zero d s law σ o sg e O i K p T h room = absurd (omega arith)
 branches-law (suc n) d s law σ o sg e O i K p T h room =
-    branch-law d s law σ o sg e O i K n (branches (read-type d s) s σ o e n) (branches-law n d s law σ o sg e O i K) p T room
+    branch-law d s law σ o sg e O i K n (branches-read (read-type d s) s σ o e n) (branches-law n d s law σ o sg e O i K) p T room
 
 sign-of-is : (n : ℕ) → OneOf (38 ∷ 43 ∷ []) n → OneOf (33 ∷ 63 ∷ []) (sign-of n)
 unfolding sign-of
@@ -376,7 +376,7 @@ module _ (d : ℕ) (s : List ℕ) (down : (d ≡ 0 → ⊥) → TypeLaw (d - 1) 
       opens = state (just 123 ∷ a-branch σ K) (a-choice (length (W .sorts)) ∷ O) empty-branch (add-state W (choice-sort (k .kind)))
 
       within-it : Rest
-      within-it q u = branches (read-type (d - 1) s) s σ (length (W .sorts)) e 129 q u
+      within-it q u = branches-read (read-type (d - 1) s) s σ (length (W .sorts)) e 129 q u
 
       brace-then : Rest
       brace-then q u = unless (within-it q u) (goes s K O)
@@ -426,7 +426,7 @@ law (suc d) s = type-law (suc d) s (λ z. let y : suc d - 1 ≡ d = omega arith 
 
 -- after the type: the end of the text
 ending : (s : List ℕ) (b : Branch) (T : Table) (q : ℕ) → at s (state [] [] b T) q ≡ end-of-text (token-at s q) T
-unfolding end-of-text moved past run-tokens first-no questions token-formed grammar-allows edition-known name-bound guarded ranged share-ranged new-label within shares-add taken unexpected-at
+unfolding end-of-text moved past run-tokens first-no questions token-formed grammar-allows edition-known name-bound guarded ranged share-ranged new-label within-limits shares-add taken unexpected-at
 ending s b T q = at-token s (state [] [] b T) q ∙ go (eqb (k .kind) 0) refl (eqb (k .kind) 1) refl
   where
     k : Token

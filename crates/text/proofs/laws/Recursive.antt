@@ -8,7 +8,7 @@ use borrow.Author.Tests.{eq-eqb, ne-eqb}
 use Rattle.table.specs.Table.{Table}
 use Rattle.grammar.specs.inner.Scanner.{token-at}
 use Rattle.grammar.specs.Building.{denied}
-use Rattle.text.specs.inner.Recursive.{unexpected-at, open-rec, name-type, end-type, Reader, branch-then, branches, choice-type, rec-type, type-by, read-type, Env}
+use Rattle.text.specs.inner.Recursive.{unexpected-at, open-rec, name-type, end-type, Reader, branch-then, branches-read, choice-type, rec-type, type-by, read-type, Env}
 use Rattle.grammar.specs.declared.token.Token.{Token}
 use types.Run.{OneOf}
 
@@ -65,13 +65,13 @@ module _ (d : ℕ) (s : List ℕ) (p : ℕ) (g : ℕ) (e : Env) (t : Table) (k :
 
 -- a branch, with one less to come
 pub turn : (inner : Reader) (s : List ℕ) (sign owner : ℕ) (e : Env) (n p : ℕ) (t : Table) → 0 < n
-    → branches inner s sign owner e n p t ≡ branch-then inner s sign owner e p t (branches inner s sign owner e (n - 1))
-unfolding branches
+    → branches-read inner s sign owner e n p t ≡ branch-then inner s sign owner e p t (branches-read inner s sign owner e (n - 1))
+unfolding branches-read
 turn inner s sign owner e zero p t h = absurd (omega arith)
 turn inner s sign owner e (suc n) p t h = let z : suc n - 1 ≡ n = omega arith in rw z
 
 pub no-turn : (inner : Reader) (s : List ℕ) (sign owner : ℕ) (e : Env) (n p : ℕ) (t : Table) → n ≤ 0
-    → branches inner s sign owner e n p t ≡ denied 8 p
-unfolding branches
+    → branches-read inner s sign owner e n p t ≡ denied 8 p
+unfolding branches-read
 no-turn inner s sign owner e zero p t h = refl
 no-turn inner s sign owner e (suc n) p t h = absurd (omega arith)

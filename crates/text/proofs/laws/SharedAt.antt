@@ -9,8 +9,8 @@ use Rattle.table.specs.Table.{Table, Branch}
 use Rattle.grammar.specs.inner.Scanner.{token-at}
 use Rattle.grammar.specs.Number.{signed-in, in-share}
 use Rattle.grammar.specs.Building.{add-share, denied, Built}
-use Rattle.grammar.specs.Reading.{Item, just, dot, share, Open, state, within}
-use Rattle.text.specs.inner.Recursive.{step, unexpected-at, passed, expect-at, count-read, share-from, count-from, then-dot, dotted, shared-at, then-read, with-count}
+use Rattle.grammar.specs.Reading.{Item, just, dot, share, Open, state, within-limits}
+use Rattle.text.specs.inner.Recursive.{step-answer, unexpected-at, passed, expect-at, count-read, share-from, count-from, then-dot, dotted, shared-at, then-read, with-count}
 use Rattle.grammar.specs.declared.token.Token.{Token}
 use Rattle.text.specs.declared.count.Counted.{Counted}
 use Rattle.text.proofs.laws.Moved.{at, at-token}
@@ -19,7 +19,7 @@ use Rattle.text.proofs.laws.FieldsAt.{plain, no-zero}
 
 pub dot-law : (s : List ℕ) (K : List Item) (O : List Open) (b : Branch) (T : Table) (p : ℕ)
     → at s (state (just 46 ∷ K) O b T) p ≡ then-read (expect-at s p 46) (λ q. at s (state K O b T) q)
-unfolding within
+unfolding within-limits
 dot-law s K O b T p = plain s O T 46 K b p (λ x. omega arith) (λ x. omega arith) (λ h. rw h)
 
 module _ (s : List ℕ) (K : List Item) (O : List Open) (b : Branch) (T : Table) where
@@ -51,7 +51,7 @@ module _ (s : List ℕ) (K : List Item) (O : List Open) (b : Branch) (T : Table)
       k = token-at s p
 
       go : (x y : Bool) → cond x (at s (state (share ∷ just 46 ∷ K) O b T) (k .end)) (cond y (at s (state K O b (add-share T 0)) (k .end)) (wrong k))
-          ≡ with-count (cond x (then-dot s (share-from s (token-at s (k .end)))) (count-read (cond y (step 0 (k .end)) (unexpected-at k) .question) (cond y (step 0 (k .end)) (unexpected-at k) .at) 0)) goes
+          ≡ with-count (cond x (then-dot s (share-from s (token-at s (k .end)))) (count-read (cond y (step-answer 0 (k .end)) (unexpected-at k) .question) (cond y (step-answer 0 (k .end)) (unexpected-at k) .at) 0)) goes
       go true y = number-law (k .end)
       go false true = refl
       go false false = rw (no-zero k)

@@ -14,7 +14,7 @@ use Rattle.grammar.specs.Token.{word-in}
 use Rattle.grammar.specs.Number.{signed-in, offset, in-kind, in-share, in-edition}
 use Rattle.grammar.specs.Grammar.{or-else}
 use Rattle.grammar.specs.Building.{empty-branch, labelled, field-added, set-edition, add-state, add-share, label-used, choice-right, denied, Built}
-use Rattle.grammar.specs.Reading.{Item, outset, edition, just, name, label, type, more, fields, field, low, high, more-fields, dot, share, Open, a-rec, a-choice, State, state, meaning, unguarded, owner-in, closed, left, token-formed, grammar-allows, admits, edition-known, is-found, name-bound, guarded, ranged, share-ranged, new-label, within, shares-add, sign-of, choice-sort, kind-of, a-branch, a-field, target, stored, began, taken, questions}
+use Rattle.grammar.specs.Reading.{Item, outset, edition, just, name, label, type, more, fields, field, low, high, more-fields, dot, share, Open, a-rec, a-choice, State, state, meaning, unguarded, owner-in, closed, left, token-formed, grammar-allows, admits, edition-known, is-found, name-bound, guarded, ranged, share-ranged, new-label, within-limits, shares-add, sign-of, choice-sort, kind-of, a-branch, a-field, target, stored, began, taken, questions}
 use Rattle.text.specs.inner.Recursive.{unexpected-at}
 use Rattle.grammar.specs.declared.token.Token.{Token}
 use Rattle.grammar.proofs.laws.Opening.{outset-same}
@@ -46,7 +46,7 @@ module _ (s : List ℕ) (K : List Item) (O : List Open) (b : Branch) (T : Table)
       go false f = rw (f, e)
 
   -- a token of one kind n; W is whether it is within the limits
-  pub sign-step : (n : ℕ) (W : Bool) → (n ≡ 0 → ⊥) → (n ≡ 1 → ⊥) → (k .kind ≡ n → within s (state (just n ∷ K) O b T) k ≡ W)
+  pub sign-step : (n : ℕ) (W : Bool) → (n ≡ 0 → ⊥) → (n ≡ 1 → ⊥) → (k .kind ≡ n → within-limits s (state (just n ∷ K) O b T) k ≡ W)
       → moved s (state (just n ∷ K) O b T) k ≡ cond (eqb (k .kind) n) (cond W (at s (state K O b T) (k .end)) (denied 8 (k .start))) (wrong k)
   unfolding moved first-no questions token-formed grammar-allows edition-known name-bound guarded ranged share-ranged new-label shares-add taken unexpected-at
   sign-step n W z y w =
@@ -59,18 +59,18 @@ module _ (s : List ℕ) (K : List Item) (O : List Open) (b : Branch) (T : Table)
 
   pub outset-step : moved s (state (outset ∷ K) O b T) k
       ≡ cond (eqb (k .kind) 69) (at s (state (edition ∷ type ∷ K) O b T) (k .end)) (moved s (state (type ∷ K) O b T) k)
-  unfolding moved first-no questions token-formed grammar-allows edition-known name-bound guarded ranged share-ranged new-label within shares-add taken
+  unfolding moved first-no questions token-formed grammar-allows edition-known name-bound guarded ranged share-ranged new-label within-limits shares-add taken
   outset-step = by-test (eqb (k .kind) 69) (λ e. let h : k .kind ≡ 69 = eqb-true _ _ e in moved-at s (state (outset ∷ K) O b T) k (λ x. omega arith) ∙ rw h) (λ e. let a = outset-same s K O b T k (eqb-false _ _ e) in rw (a .0, a .1))
 
   -- the name of a rec
   pub name-step : moved s (state (name ∷ K) O b T) k ≡ cond (eqb (k .kind) 65) (at s (state K (a-rec (word-in s k) (length (T .sorts)) ∷ O) b T) (k .end)) (wrong k)
-  unfolding moved first-no questions token-formed grammar-allows edition-known name-bound guarded ranged share-ranged new-label within shares-add taken unexpected-at
+  unfolding moved first-no questions token-formed grammar-allows edition-known name-bound guarded ranged share-ranged new-label within-limits shares-add taken unexpected-at
   name-step = by-test (eqb (k .kind) 65) (λ e. let h : k .kind ≡ 65 = eqb-true _ _ e in moved-at s (state (name ∷ K) O b T) k (λ x. omega arith) ∙ rw h) (λ e. not-allowed name e)
 
   -- a label
   pub label-step : moved s (state (label ∷ K) O b T) k ≡ cond (eqb (k .kind) 65)
       (cond (label-used T (owner-in O) (word-in s k)) (denied 7 (k .start)) (at s (state K O (labelled (word-in s k) (owner-in O)) T) (k .end))) (wrong k)
-  unfolding moved first-no questions token-formed grammar-allows edition-known name-bound guarded ranged share-ranged new-label within shares-add taken unexpected-at
+  unfolding moved first-no questions token-formed grammar-allows edition-known name-bound guarded ranged share-ranged new-label within-limits shares-add taken unexpected-at
   label-step =
       by-test (eqb (k .kind) 65)
       (λ e.
@@ -82,7 +82,7 @@ module _ (s : List ℕ) (K : List Item) (O : List Open) (b : Branch) (T : Table)
   pub more-step : (σ : ℕ) → moved s (state (more σ ∷ K) O b T) k
       ≡ cond (eqb (k .kind) 125) (cond (choice-right T (owner-in O)) (at s (state K (left O) b T) (k .end)) (denied 20 (k .start)))
       (cond (eqb (k .kind) 44) (at s (state (a-branch σ K) O b T) (k .end)) (wrong k))
-  unfolding moved first-no questions token-formed grammar-allows edition-known name-bound guarded ranged share-ranged new-label within shares-add taken unexpected-at
+  unfolding moved first-no questions token-formed grammar-allows edition-known name-bound guarded ranged share-ranged new-label within-limits shares-add taken unexpected-at
   more-step σ =
       by-test (eqb (k .kind) 125)
       (λ e.
@@ -93,7 +93,7 @@ module _ (s : List ℕ) (K : List Item) (O : List Open) (b : Branch) (T : Table)
   -- a type, by its first token; W is the table with the branch that leads to it, by the next state
   pub end-step : k .kind ≡ 101 → (W : Table) → stored O b T (length (T .sorts)) ≡ W
       → moved s (state (type ∷ K) O b T) k ≡ cond (leb 32 (length (T .sorts))) (denied 8 (k .start)) (at s (state K (closed O) empty-branch (add-state W S.ends)) (k .end))
-  unfolding moved first-no questions token-formed grammar-allows edition-known name-bound guarded ranged share-ranged new-label within shares-add taken target began
+  unfolding moved first-no questions token-formed grammar-allows edition-known name-bound guarded ranged share-ranged new-label within-limits shares-add taken target began
   end-step h W w =
       by-test (leb 32 (length (T .sorts))) (λ e. rw (h, le-ltb (length (T .sorts)) 32 (leb-true _ _ e)))
       (λ e. moved-at s (state (type ∷ K) O b T) k (λ x. omega arith) ∙ rw (h, lt-ltb (length (T .sorts)) 32 (leb-false _ _ e), w))
@@ -103,7 +103,7 @@ module _ (s : List ℕ) (K : List Item) (O : List Open) (b : Branch) (T : Table)
       ≡ cond (is-found (meaning O (word-in s k)))
       (cond (unguarded O (word-in s k)) (denied 5 (k .start))
       (at s (state K (closed O) empty-branch (stored O b T (or-else (meaning O (word-in s k)) (length (T .sorts))))) (k .end))) (denied 4 (k .start))
-  unfolding moved first-no questions token-formed grammar-allows edition-known name-bound guarded ranged share-ranged new-label within shares-add taken target began
+  unfolding moved first-no questions token-formed grammar-allows edition-known name-bound guarded ranged share-ranged new-label within-limits shares-add taken target began
   var-step h =
       by-test (is-found (meaning O (word-in s k)))
       (λ e.
@@ -113,7 +113,7 @@ module _ (s : List ℕ) (K : List Item) (O : List Open) (b : Branch) (T : Table)
   -- a rec: the branch is still to be stored
   pub rec-step : k .kind ≡ 114 → moved s (state (type ∷ K) O b T) k
       ≡ cond (ltb (length O) 16) (at s (state (name ∷ just 46 ∷ type ∷ K) O b T) (k .end)) (denied 8 (k .start))
-  unfolding moved first-no questions token-formed grammar-allows edition-known name-bound guarded ranged share-ranged new-label within shares-add taken
+  unfolding moved first-no questions token-formed grammar-allows edition-known name-bound guarded ranged share-ranged new-label within-limits shares-add taken
   rec-step h = by-test (ltb (length O) 16) (λ e. moved-at s (state (type ∷ K) O b T) k (λ x. omega arith) ∙ rw (h, e)) (λ e. rw (h, e))
 
   -- + or &
@@ -122,7 +122,7 @@ module _ (s : List ℕ) (K : List Item) (O : List Open) (b : Branch) (T : Table)
       ≡ cond (ltb (length O) 16) (cond (leb 32 (length (T .sorts))) (denied 8 (k .start))
       (at s (state (just 123 ∷ a-branch (sign-of (k .kind)) K) (a-choice (length (W .sorts)) ∷ O) empty-branch (add-state W (choice-sort (k .kind)))) (k .end)))
       (denied 8 (k .start))
-  unfolding moved first-no questions token-formed grammar-allows edition-known name-bound guarded ranged share-ranged new-label within shares-add taken target began
+  unfolding moved first-no questions token-formed grammar-allows edition-known name-bound guarded ranged share-ranged new-label within-limits shares-add taken target began
   choice-step o W w = go o (ltb (length O) 16) refl (leb 32 (length (T .sorts))) refl
     where
       opens : State
@@ -148,7 +148,7 @@ module _ (s : List ℕ) (K : List Item) (O : List Open) (b : Branch) (T : Table)
   -- a field's word, the parenthesis that closes, and what comes after a field
   pub field-step : moved s (state (field ∷ K) O b T) k
       ≡ cond (eqb (kind-of (k .kind)) 3) (wrong k) (cond (leb 4 (length (b .fields))) (denied 8 (k .start)) (at s (state (a-field (kind-of (k .kind)) K) O b T) (k .end)))
-  unfolding moved first-no questions token-formed grammar-allows edition-known name-bound guarded ranged share-ranged new-label within shares-add taken unexpected-at kind-of
+  unfolding moved first-no questions token-formed grammar-allows edition-known name-bound guarded ranged share-ranged new-label within-limits shares-add taken unexpected-at kind-of
   field-step = go (eqb (k .kind) 105) refl (eqb (k .kind) 116) refl (eqb (k .kind) 102) refl (eqb (k .kind) 1) refl (leb 4 (length (b .fields))) refl
     where
       Goal : Bool → Type 0
@@ -179,19 +179,19 @@ module _ (s : List ℕ) (K : List Item) (O : List Open) (b : Branch) (T : Table)
       go false e false f false g false h l m = rw (h, e, f, g)
 
   pub fields-step : moved s (state (fields ∷ K) O b T) k ≡ cond (eqb (k .kind) 41) (at s (state K O b T) (k .end)) (moved s (state (field ∷ K) O b T) k)
-  unfolding moved first-no questions token-formed grammar-allows edition-known name-bound guarded ranged share-ranged new-label within shares-add taken
+  unfolding moved first-no questions token-formed grammar-allows edition-known name-bound guarded ranged share-ranged new-label within-limits shares-add taken
   fields-step = by-test (eqb (k .kind) 41) (λ e. let h : k .kind ≡ 41 = eqb-true _ _ e in moved-at s (state (fields ∷ K) O b T) k (λ x. omega arith) ∙ rw h) (λ e. rw e)
 
   pub more-fields-step : moved s (state (more-fields ∷ K) O b T) k
       ≡ cond (eqb (k .kind) 41) (at s (state K O b T) (k .end)) (cond (eqb (k .kind) 44) (at s (state (field ∷ K) O b T) (k .end)) (wrong k))
-  unfolding moved first-no questions token-formed grammar-allows edition-known name-bound guarded ranged share-ranged new-label within shares-add taken unexpected-at
+  unfolding moved first-no questions token-formed grammar-allows edition-known name-bound guarded ranged share-ranged new-label within-limits shares-add taken unexpected-at
   more-fields-step =
       by-test (eqb (k .kind) 41) (λ e. let h : k .kind ≡ 41 = eqb-true _ _ e in moved-at s (state (more-fields ∷ K) O b T) k (λ x. omega arith) ∙ rw h)
       (λ e. by-test (eqb (k .kind) 44) (λ g. let h : k .kind ≡ 44 = eqb-true _ _ g in moved-at s (state (more-fields ∷ K) O b T) k (λ x. omega arith) ∙ rw h) (λ g. not-allowed more-fields (rw (e, g))))
 
   -- the two numbers of a range; below, a share
-  number-within : (i : Item) → k .kind ≡ 48 → within s (state (i ∷ K) O b T) k ≡ true
-  unfolding within
+  number-within : (i : Item) → k .kind ≡ 48 → within-limits s (state (i ∷ K) O b T) k ≡ true
+  unfolding within-limits
   number-within i h = rw h
 
   not-one : k .kind ≡ 48 → k .kind ≡ 1 → ⊥
@@ -229,7 +229,7 @@ module _ (s : List ℕ) (K : List Item) (O : List Open) (b : Branch) (T : Table)
   -- after a branch's fields, and its share
   pub dot-step : moved s (state (dot ∷ K) O b T) k ≡ cond (eqb (k .kind) 64) (at s (state (share ∷ just 46 ∷ K) O b T) (k .end))
       (cond (eqb (k .kind) 46) (at s (state K O b (add-share T 0)) (k .end)) (wrong k))
-  unfolding moved first-no questions token-formed grammar-allows edition-known name-bound guarded ranged share-ranged new-label within shares-add taken unexpected-at
+  unfolding moved first-no questions token-formed grammar-allows edition-known name-bound guarded ranged share-ranged new-label within-limits shares-add taken unexpected-at
   dot-step =
       by-test (eqb (k .kind) 64) (λ e. let h : k .kind ≡ 64 = eqb-true _ _ e in moved-at s (state (dot ∷ K) O b T) k (λ x. omega arith) ∙ rw h)
       (λ e. by-test (eqb (k .kind) 46) (λ g. let h : k .kind ≡ 46 = eqb-true _ _ g in moved-at s (state (dot ∷ K) O b T) k (λ x. omega arith) ∙ rw h) (λ g. not-allowed dot (rw (e, g))))

@@ -48,16 +48,16 @@ Fills R before r after = (T : Table) → Holds before T → Gives (R T) r after
 
 -- ---- one token
 
-abbrev pub step : ℕ → ℕ → Step
-step q at = record { question = q; at = at }
+abbrev pub step-answer : ℕ → ℕ → Step
+step-answer q at = record { question = q; at = at }
 
 -- a token that the grammar does not allow: 2 where it is malformed, else 3
 unfoldable pub unexpected-at : Token → Step
-unexpected-at k = step (cond (eqb (k .kind) K.malformed) 2 3) (k .start)
+unexpected-at k = step-answer (cond (eqb (k .kind) K.no-token) 2 3) (k .start)
 
 -- past a token of the kind
 unfoldable pub passed : Token → ℕ → Step
-passed k kind = cond (eqb (k .kind) kind) (step 0 (k .end)) (unexpected-at k)
+passed k kind = cond (eqb (k .kind) kind) (step-answer 0 (k .end)) (unexpected-at k)
 
 unfoldable pub expect-at : List ℕ → ℕ → ℕ → Step
 expect-at s p kind = passed (token-at s p) kind
@@ -80,12 +80,12 @@ next-at s p close = next-of (token-at s p) close
 
 -- ---- numbers and fields
 
-abbrev pub number : Bool → ℕ → Number
-number ok n = record { ok = ok; offset = n }
+abbrev pub number-answer : Bool → ℕ → Number
+number-answer ok n = record { ok = ok; offset = n }
 
 -- a number in offset form, where it is within its kind
 unfoldable pub number-read : ℕ → Signed → Number
-number-read kind n = cond (in-kind kind n) (number true (offset n)) (number false 0)
+number-read kind n = cond (in-kind kind n) (number-answer true (offset n)) (number-answer false 0)
 
 abbrev pub bound-made : ℕ → ℕ → ℕ → Bound
 bound-made q at n = record { question = q; at = at; offset = n }
@@ -93,7 +93,7 @@ bound-made q at n = record { question = q; at = at; offset = n }
 -- one end of a range: 6 where it is not within its kind, or below the least
 unfoldable pub bounded : List ℕ → Token → ℕ → ℕ → Bound
 bounded s k kind least =
-    cond (eqb (k .kind) K.number)
+    cond (eqb (k .kind) K.of-number)
     (cond (in-kind kind (signed-in s k))
     (cond (ltb (offset (signed-in s k)) least) (bound-made 6 (k .start) 0) (bound-made 0 (k .end) (offset (signed-in s k))))
     (bound-made 6 (k .start) 0))
@@ -195,7 +195,7 @@ count-read q at n = record { question = q; at = at; number = n }
 -- a number from 1 to a limit; the question where it is another
 unfoldable pub count-from : ℕ → ℕ → List ℕ → Token → Counted
 count-from most q s k =
-    cond (eqb (k .kind) K.number)
+    cond (eqb (k .kind) K.of-number)
     (cond (in-count most (signed-in s k)) (count-read 0 (k .end) (signed-in s k .value)) (count-read q (k .start) 0))
     (count-read (unexpected-at k .question) (unexpected-at k .at) 0)
 
@@ -273,7 +273,7 @@ name-read q at w = record { question = q; at = at; word = w }
 -- the name of a rec and its dot
 unfoldable pub rec-named : List ℕ → Token → Name
 rec-named s k =
-    cond (eqb (k .kind) K.name)
+    cond (eqb (k .kind) K.of-name)
     (name-read (expect-at s (k .end) (K.of ".") .question) (expect-at s (k .end) (K.of ".") .at) (word-in s k))
     (name-read (unexpected-at k .question) (unexpected-at k .at) 0)
 
@@ -285,7 +285,7 @@ open-rec s p = rec-named s (token-at s p)
 -- a label that no branch of its choice has
 unfoldable pub label-from : List ℕ → Token → Table → ℕ → Name
 label-from s k t owner =
-    cond (eqb (k .kind) K.name)
+    cond (eqb (k .kind) K.of-name)
     (cond (label-used t owner (word-in s k)) (name-read 7 (k .start) 0) (name-read 0 (k .end) (word-in s k)))
     (name-read (unexpected-at k .question) (unexpected-at k .at) 0)
 
@@ -392,14 +392,14 @@ branch-then inner s sign owner env p t more =
     unless (head-at s p sign owner t) (λ q u. unless (inner q (bound-in env) env u) (λ r v. end-of-branch (token-at s r) owner v more))
 
 -- at most n branches
-unfoldable pub branches : Reader → List ℕ → ℕ → ℕ → Env → ℕ → ℕ → Table → Built
-branches inner s sign owner env zero p t = denied 8 p
-branches inner s sign owner env (suc n) p t = branch-then inner s sign owner env p t (branches inner s sign owner env n)
+unfoldable pub branches-read : Reader → List ℕ → ℕ → ℕ → Env → ℕ → ℕ → Table → Built
+branches-read inner s sign owner env zero p t = denied 8 p
+branches-read inner s sign owner env (suc n) p t = branch-then inner s sign owner env p t (branches-read inner s sign owner env n)
 
 -- a choice and a rec, whose types `inner` reads
 unfoldable pub choice-type : Reader → List ℕ → Token → Env → Table → Built
 choice-type inner s k env t =
-    unless (open-choice s k t) (λ q u. branches inner s (sign-of (k .kind)) (length (t .sorts)) env (suc branches-most) q u)
+    unless (open-choice s k t) (λ q u. branches-read inner s (sign-of (k .kind)) (length (t .sorts)) env (suc branches-most) q u)
 
 unfoldable pub rec-type : Reader → Name → ℕ → Env → Table → Built
 rec-type inner o g env t =
@@ -409,7 +409,7 @@ rec-type inner o g env t =
 unfoldable pub type-by : ℕ → Reader → List ℕ → Token → ℕ → Env → Table → Built
 type-by d inner s k g env t =
     cond (eqb (k .kind) (K.of "end")) (end-type k t)
-    (cond (eqb (k .kind) K.name) (name-type s k g env t)
+    (cond (eqb (k .kind) K.of-name) (name-type s k g env t)
     (cond (eqb (k .kind) (K.of "rec"))
     (cond (eqb d 0) (denied 8 (k .start)) (rec-type inner (open-rec s (k .end)) g env t))
     (cond (one-of (K.of "&" ∷ K.of "+" ∷ []) (k .kind))
@@ -422,7 +422,7 @@ read-type zero s p g env t = type-by zero (λ q a e u. denied 8 q) s (token-at s
 read-type (suc d) s p g env t = type-by (suc d) (read-type d s) s (token-at s p) g env t
 
 unfoldable pub read-branches : ℕ → List ℕ → ℕ → ℕ → ℕ → Env → Table → Built
-read-branches d s p sign owner env t = branches (read-type d s) s sign owner env (suc branches-most) p t
+read-branches d s p sign owner env t = branches-read (read-type d s) s sign owner env (suc branches-most) p t
 
 -- ---- whole texts
 
@@ -432,14 +432,14 @@ edition-at s p = with-count (count-from 2 23 s (token-at s p)) (λ e. came 0 (e 
 
 -- the opening of a text whose first token is k; without one the type comes first, and the edition is 1
 unfoldable pub opening-from : List ℕ → Token → Built
-opening-from s k = cond (eqb (k .kind) K.edition) (edition-at s (k .end)) (came 0 0 (stateless 1))
+opening-from s k = cond (eqb (k .kind) K.edition-word) (edition-at s (k .end)) (came 0 0 (stateless 1))
 
 abbrev pub opening-of : List ℕ → Built
 opening-of s = opening-from s (token-at s 0)
 
 -- after the type of a whole text: nothing more
 unfoldable pub end-of-text : Token → Table → Built
-end-of-text k t = cond (eqb (k .kind) K.ran-out) (came 0 0 t) (denied (unexpected-at k .question) (unexpected-at k .at))
+end-of-text k t = cond (eqb (k .kind) K.text-end) (came 0 0 t) (denied (unexpected-at k .question) (unexpected-at k .at))
 
 -- a whole text
 unfoldable pub read-text : List ℕ → Built

@@ -14,7 +14,7 @@ use Rattle.conversation.specs.Conversation.{Event, conversation}
 use Rattle.conversation.specs.Counts.{Counts, starting}
 use Rattle.conversation.specs.Batch.{begun}
 use Rattle.conversation.specs.Batches.{last-answer, summed}
-use Rattle.conversation.specs.Programs.{Call, Given, CallDone, steps, takes, away, CallsDone, no-call, a-call, messages-of}
+use Rattle.conversation.specs.Programs.{Call, Given, CallDone, step-done, batch-done, batch-refused, CallsDone, no-call, a-call, messages-of}
 use Rattle.conversation.proofs.laws.Conversation.{refused-blamed, cons-eq, nil-cons, blamed-there}
 use Rattle.conversation.proofs.laws.Programs.{done-played}
 use Rattle.together.specs.Unblamed.{told-last, CallsUnblamed}
@@ -44,9 +44,9 @@ module _ (t : Words) (side : Party) (n : ℕ) (f : Option ℕ) where
   by-call : {s : State} {c : Counts} {k : Call} {g : Given} {events : List Event} → CallDone t s c k g events
       → told-last g ≡ some (blamed side n f) → Blamed events
   unfolding told-last summed begun last-answer
-  by-call steps h = last-there (blamed side n f) _ h
-  by-call (takes {events = events} on x) h = last-there (blamed side n f) events h
-  by-call (away off) h = refused-blamed (some-eq h)
+  by-call step-done h = last-there (blamed side n f) _ h
+  by-call (batch-done {events = events} on x) h = last-there (blamed side n f) events h
+  by-call (batch-refused off) h = refused-blamed (some-eq h)
 
   by-calls : {s : State} {c : Counts} {calls : List Call} {gs : List Given} {events : List Event} → CallsDone t s c calls gs events
       → (earlier : List Given) (g : Given) (later : List Given) → gs ≡ earlier ++ (g ∷ later) → told-last g ≡ some (blamed side n f)

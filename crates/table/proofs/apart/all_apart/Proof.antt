@@ -7,14 +7,14 @@ use lib.ListN.{length-replicate}
 use borrow.Author.Tests.{not-true, not-false}
 use borrow.Author.Needs.{needs}
 use Rattle.bits.proofs.laws.Digits.{with-below}
-use Rattle.table.specs.inner.Scans.{all, alone, mark-of}
+use Rattle.table.specs.inner.Scans.{all, no-twin, mark-of}
 use Rattle.table.proofs.laws.Lists.{all-yes, all-no, all-end}
 use Rattle.table.proofs.laws.Twins.{Filter, filter-none, filter-more, changed}
 use Rattle.table.proofs.apart.all_apart.Statement.{statement}
 use Rattle.table.proofs.apart.all_apart.Tie as tie
 
 abbrev Inv-loop : tie.InvT-loop
-Inv-loop t n seen₀ k₀ seen k = (k ≤ n) × (n ≤ 128) × Filter t seen k × (true ≡ all k (alone t))
+Inv-loop t n seen₀ k₀ seen k = (k ≤ n) × (n ≤ 128) × Filter t seen k × (true ≡ all k (no-twin t))
 
 abbrev μ-loop : tie.MeasureT-loop
 μ-loop t n seen₀ k₀ seen k = n - k
