@@ -1,2 +1,3 @@
 -- Laws, each file named for the definition that it is about.
+pub mod AwaitedBy
 pub mod Likeness

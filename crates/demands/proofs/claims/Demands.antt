@@ -22,14 +22,20 @@ use Rattle.types.specs.Types.{protocol-rules}
 use Rattle.types.proofs.laws.Agree.{Stands-for}
 use Rattle.types.proofs.laws.TextRules.{text-rules}
 use Rattle.types.proofs.laws.Headline.{type-demand, type-early}
+use Rattle.conversation.specs.Conversation.{forwarded-ones, blamed-first}
+use Rattle.conversation.specs.Programs.{messages-of}
+use Rattle.conversation.proofs.claims.CallsWatched.{calls-watched}
 use Rattle.machine.specs.Machine.{Move, Safe, Unsafe, Shortest}
 use Rattle.machine.specs.Answer.{Answer, refused, fits, fails, fit-questions, Demand}
 use Rattle.machine.proofs.claims.DemandThree.{demand-three}
 use Rattle.machine.proofs.laws.Edition.{safe-back}
 use Rattle.machine.proofs.claims.FitFewest.{fit-fewest}
-use Rattle.together.proofs.claims.FitsUnblamed.{fits-unblamed}
+use Rattle.together.proofs.claims.CallsUnblamed.{calls-unblamed}
+use Rattle.codes.specs.RawPrograms.{calls-of}
+use Rattle.codes.proofs.laws.RawPrograms.{watched-raw}
 use Rattle.report.proofs.claims.ReportsFit.{reports-fit, reports-no-fit, reports-fewest}
-use Rattle.demands.specs.Demands.{ReadOfTexts, OneProtocol, DemandTwoOfTexts, EarlyOfTexts, DemandThreeOfTexts, EditionsOfTexts, ReportsOfTexts, FewestOfTexts, ReportsFewestOfTexts, UnblamedOfTexts}
+use Rattle.demands.specs.Demands.{ReadOfTexts, OneProtocol, DemandTwoOfTexts, CallsOfTexts, RawOfTexts, EarlyOfTexts, DemandThreeOfTexts, EditionsOfTexts, ReportsOfTexts, FewestOfTexts, ReportsFewestOfTexts, UnblamedOfTexts}
+use Rattle.demands.proofs.laws.AwaitedBy.{awaited-alike}
 use Rattle.demands.proofs.laws.Likeness.{alike-itself, safe-like, unsafe-like, shortest-like}
 
 -- ---- one text
@@ -42,6 +48,26 @@ one-protocol s p q x y = protocol-once s p q (x .spelt) (y .spelt)
 
 pub demand-two-of-texts : DemandTwoOfTexts
 demand-two-of-texts s t x sent = type-demand s t x sent
+
+pub calls-of-texts : CallsOfTexts
+calls-of-texts s p x z low high calls =
+    let T = view (reads s .table) in
+    let w = calls-watched (reads s .table) z (read-sound s (is-read s p x)) low high calls in
+    record {
+      starts = w .starts;
+      events = w .events;
+      answers = w .answers;
+      conversing = w .conversing;
+      watched = demand-two-of-texts s p x (messages-of (w .events));
+      awaits =
+          awaited-alike (Stands-for T) (protocol-rules p) (table-rules T) (text-rules s p x) (forwarded-ones (w .events))
+          (blamed-first (w .events)) _ (w .awaits);
+      tallied = w .tallied;
+    }
+
+pub raw-of-texts : RawOfTexts
+raw-of-texts s p x z low high raws =
+    watched-raw (reads s .table) (protocol-rules p) z raws (calls-of-texts s p x z low high (calls-of raws))
 
 pub early-of-texts : EarlyOfTexts
 early-of-texts s p x sent = type-early s p x sent
@@ -146,6 +172,5 @@ reports-fewest-of-texts protocol device p d x y report r u =
     (z .0, z .1, z .2, shortest protocol device p d x y (length (z .0)) _ .1 (z .3))
 
 pub unblamed-of-texts : UnblamedOfTexts
-unblamed-of-texts protocol device p d x y safe sent keeps =
-    fits-unblamed Ty (protocol-rules d) (reads protocol .table) (read-sound protocol (is-read protocol p x))
-    (beside protocol device p d x y .0 safe) sent keeps
+unblamed-of-texts protocol device p d x y safe =
+    calls-unblamed Ty (protocol-rules d) (reads protocol .table) (read-sound protocol (is-read protocol p x)) (beside protocol device p d x y .0 safe)
