@@ -12,8 +12,8 @@ use Rattle.conversation.specs.declared.batch.Last.the-variants.{NoneDue, Answer
 use Rattle.conversation.specs.Step.{refused, blamed, forwarded, fresh}
 use Rattle.conversation.specs.Batch.{Lane, last-of}
 use Rattle.conversation.specs.Counts.{counted-batch}
-use Rattle.examples.specs.Twelve.{ask, ok}
-use Rattle.examples.specs.TableExamples.{P1, P2}
+use Rattle.examples.specs.Twelve.{ask, ok, table}
+use Rattle.examples.specs.TableExamples.{P1, P2, one-letter}
 use Rattle.examples.specs.MessageExamples.{A-of}
 use Rattle.examples.specs.StepExamples.{at-position, quit}
 use Rattle.examples.specs.CountExamples.{P-counts}
@@ -21,6 +21,10 @@ use Rattle.examples.specs.CountExamples.{P-counts}
 -- bytes used on a side, bytes written on the other side's output, and that output
 abbrev pub lane-of : ℕ → ℕ → List ℕ → Lane
 lane-of u w out = record { used = u; written = w; output = out }
+
+-- `A` without fields
+abbrev pub A-alone : List ℕ
+A-alone = one-letter 65 ++ (0 ∷ [])
 
 -- "takes due messages in turn until none is due, a step refuses or a blame falls"; "A refused step changes nothing and undoes none before it. Bytes used on a side are those
 -- of its forwarded and blamed messages, bytes written on an output those forwarded to it." The device's outputs are of 8, the host's of 9
@@ -74,6 +78,17 @@ pub record BatchesTaken : Type 0 where
   -- a text that is no UTF-8 is due, and stops it (request 6: "Step, batch .. rest on the new meaning")
   pub no-text : counted-batch P1 fresh (P-counts 442 0 0 0 0 0) (A-of 1 (0 ∷ 0 ∷ 0 ∷ 1 ∷ []) (0xE9 ∷ [])) [] [] (replicate 20 9)
       ≡ (record { state = fresh; device = lane-of 0 0 (replicate 20 9); host = lane-of 0 0 []; last = some (refused 22) }, P-counts 442 0 0 0 0 0)
+  -- two of one side, while nothing waits on the other
+  pub device-alone : counted-batch (table "+{!A().+{!A().end}}") fresh (P-counts 1 0 0 0 0 0) (A-alone ++ A-alone) [] [] (replicate 18 9)
+      ≡ (
+        record { state = at-position 2 Running; device = lane-of 18 18 (A-alone ++ A-alone); host = lane-of 0 0 []; last = some forwarded },
+        P-counts 1 1 1 1 1 0,
+      )
+  pub host-alone : counted-batch (table "&{?A().&{?A().end}}") fresh (P-counts 1 0 0 0 0 0) [] (A-alone ++ A-alone) (replicate 18 8) []
+      ≡ (
+        record { state = at-position 2 Running; device = lane-of 0 0 []; host = lane-of 18 18 (A-alone ++ A-alone); last = some forwarded },
+        P-counts 1 1 1 1 1 0,
+      )
   -- the end is reached: the last answer is the last step's, and no 11
   pub to-the-end : counted-batch P1 fresh (P-counts 442 0 0 0 0 0) (quit ++ quit) ok [] (replicate 20 9)
       ≡ (

@@ -40,6 +40,12 @@ pub record KindsRead : Type 0 where
       ∷ record { kind = 1; low = 2147483648; high = 2147483712 }
       ∷ record { kind = 2; low = 2147483648; high = 2147483649 }
       ∷ []))
+  pub four-fields : ReadsAs "+{!A(int[0..1],int[2..3],int[4..5],int[6..7]).end}"
+      (A-with (record { kind = 0; low = 2147483648; high = 2147483649 }
+      ∷ record { kind = 0; low = 2147483650; high = 2147483651 }
+      ∷ record { kind = 0; low = 2147483652; high = 2147483653 }
+      ∷ record { kind = 0; low = 2147483654; high = 2147483655 }
+      ∷ []))
   pub all-ints : ReadsAs "+{!A(int[-2147483648..2147483647]).end}" (A-with (record { kind = 0; low = 0; high = 4294967295 } ∷ []))
   pub int-below : RefusedAt "+{!A(int[-2147483649..0]).end}" 6 9
   pub int-far-below : RefusedAt "+{!A(int[-4294967297..0]).end}" 6 9
@@ -113,7 +119,10 @@ pub record NamesRead : Type 0 where
   -- a name by all of its eight bytes, filled up with 0x00
   pub eight-bytes : view (table "+{!Zz09Aa8z().end}") .branches
       ≡ record { owner = 0; label = 90 ∷ 122 ∷ 48 ∷ 57 ∷ 65 ∷ 97 ∷ 56 ∷ 122 ∷ []; fields = []; target = 1 } ∷ []
-  -- "7. Is the label new in its choice?" In another it is; and 7 comes before 8
+  -- the name of a `rec` is no share, and a name is no label
+  pub long-name : Reads "rec Loop.+{!A().Loop}"
+  pub like-a-label : Reads "rec A.+{!A().end,!B().A}"
+  -- "7. Is the label new in its choice?" In another it is
   pub other-choice : Reads "+{!A().+{!A().end}}"
   -- "+{" has branches with `!`, "&{" with `?`
   pub host-first : view (table "&{?A().end}") .sorts ≡ T.receives ∷ T.ends ∷ []
@@ -147,6 +156,8 @@ pub record ShareEdges : Type 0 where
   pub two-choices : Reads "+{!A()@1000.&{?B()@400.end,?C()@600.end}}"
   pub inner-none : Reads "+{!A()@300.&{?B().end},!C()@700.end}"
   pub inner-first : RefusedAt "+{!A()@7.&{?B()@400.end,?C()@599.end}}" 20 36
+  -- 20 is asked at the brace, and not before
+  pub rec-between : Reads "+{!A()@400.end,!B()@600.rec X.end}"
   pub twice : RefusedAt "+{!A()@500@500.end}" 3 10
   pub no-number : RefusedAt "+{!A()@.end}" 3 7
 

@@ -3,7 +3,7 @@
 -- Assumes nothing.
 use mathlib.Core.Path.{_≡_}
 use mathlib.Core.Bool.{true, false}
-use mathlib.Core.List.{List, [], _∷_}
+use mathlib.Core.List.{List, [], _∷_, map}
 use mathlib.Core.Option.{none, some}
 use Prim.Native.Nat.{ℕ}
 use Prim.Native.String.{String}
@@ -15,8 +15,9 @@ use Rattle.message.specs.Message.{read}
 use Rattle.message.specs.Judge.{forbidden}
 use Rattle.message.specs.Rules.{allowed-list, completed-list}
 use Rattle.grammar.specs.Token.{word-of}
+use Rattle.grammar.specs.inner.Scanner.{tokens}
 use Rattle.grammar.specs.Number.{Signed}
-use Rattle.grammar.specs.Grammar.{sending, receiving, Kind, int, text, flag, SyntaxField, Share, Ty, stop, var, loop, choice, Br, last, also, table-of, names-bound, recs-guarded, branches-legal, labels-new, depth, shares-legal, sums-right, opening-legal}
+use Rattle.grammar.specs.Grammar.{sending, receiving, Kind, int, text, flag, SyntaxField, Share, Ty, stop, var, loop, choice, Br, last, also, Protocol, tok-of, print-text, table-of, names-bound, recs-guarded, branches-legal, labels-new, depth, shares-legal, sums-right, opening-legal}
 use Rattle.types.specs.Types.{protocol-rules, dual-type, dual-protocol, flip}
 use Rattle.spelling.specs.SpellingExamples.{plus, unopened, P-type}
 use Rattle.examples.specs.Twelve.{ask, ok}
@@ -73,6 +74,20 @@ A-B-shares v t w = choice sending (also (called "A") [] v t (last (called "B") [
 abbrev pub inner-X : Ty
 inner-X = rec-X (sends-A (rec-X (choice receiving (one-branch "B" X))))
 
+-- ---- the tokens
+
+abbrev pub Prints : String → Protocol → Type 0
+Prints s p = map (tok-of (ascii s)) (tokens (ascii s)) ≡ print-text p
+
+-- what each is written with: `end`, a name, `rec`, choices and branches of either way, fields of each kind, shares, an edition
+pub record TreesPrinted : Type 0 where
+  pub stops : Prints "end" (unopened stop)
+  pub loops : Prints "rec X.+{!A().rec X.&{?B().X}}" (unopened inner-X)
+  pub fields : Prints "+{!A(int[-5..3],text[0..64],flag[0..1]).end}"
+      (unopened (A-fields (ranging int (below-zero 5) (plus 3) ∷ ranging text (plus 0) (plus 64) ∷ ranging flag (plus 0) (plus 1) ∷ [])))
+  pub shares : Prints "+{!A()@400.end,!B()@600.end}" (unopened (A-B-shares (some (plus 400)) stop (some (plus 600))))
+  pub opening : Prints "edition 2 +{!A().end}" (record { opening = some (plus 2); type = sends-A stop })
+
 -- ---- the table
 
 -- "States are numbered from 0 in the order in which `+`, `&` and `end` stand in the text, branches from 0 over the whole text in the order of `!` and `?`. A name means the
@@ -118,7 +133,7 @@ pub record TreesAsked : Type 0 where
       × (names-bound (choice sending (or-branch "A" (rec-X (choice receiving (one-branch "B" X))) (one-branch "C" X))) [] ≡ false)
       × (names-bound (choice sending (or-branch "A" X (one-branch "C" stop))) [] ≡ false)
   -- 5, with request 1
-  pub guarded : (recs-guarded (rec-X X) ≡ false) × (recs-guarded (rec-X (rec-Y X)) ≡ false) × (recs-guarded (rec-Y (sends-A (rec-X Y))) ≡ true)
+  pub guarded : (recs-guarded P-type ≡ true) × (recs-guarded (rec-X stop) ≡ true) × (recs-guarded (rec-X X) ≡ false) × (recs-guarded (rec-X (rec-Y X)) ≡ false) × (recs-guarded (rec-Y (sends-A (rec-X Y))) ≡ true)
       × (recs-guarded (rec-X (sends-A (rec-X X))) ≡ false)
       × (recs-guarded (sends-A (rec-X X)) ≡ false)
       × (recs-guarded (rec-X (rec-X (sends-A X))) ≡ true)
@@ -127,7 +142,7 @@ pub record TreesAsked : Type 0 where
   -- the innermost `rec` of the name alone is its binder: `rec X.rec X.X` is refused for the inner one
   pub own-binder : (recs-guarded (rec-X (rec-X X)) ≡ false) × (recs-guarded (rec-X (sends-A (rec-Y X))) ≡ true)
   -- 6, and 8 of fields
-  pub ranged : (branches-legal (A-fields []) ≡ true) × (branches-legal (A-fields (ranging int (plus 5) (plus 5) ∷ [])) ≡ true)
+  pub ranged : (branches-legal P-type ≡ true) × (branches-legal (A-fields []) ≡ true) × (branches-legal (A-fields (ranging int (plus 5) (plus 5) ∷ [])) ≡ true)
       × (branches-legal (A-fields (ranging int (plus 5) (plus 4) ∷ [])) ≡ false)
       × (branches-legal (A-fields (ranging flag (plus 0) (plus 2) ∷ [])) ≡ false)
       × (branches-legal (A-fields (ranging text (below-zero 1) (plus 2) ∷ [])) ≡ false)
@@ -138,7 +153,7 @@ pub record TreesAsked : Type 0 where
       × (branches-legal (rec-X (sends-A (A-fields (ranging int (plus 5) (plus 4) ∷ [])))) ≡ false)
       × (branches-legal (choice sending (also (called "A") (ranging int (plus 5) (plus 4) ∷ []) none stop (one-branch "B" stop))) ≡ false)
   -- 7
-  pub labels : (labels-new (choice sending (or-branch "A" stop (one-branch "B" stop))) ≡ true) × (labels-new (choice sending (or-branch "A" stop (one-branch "A" stop))) ≡ false)
+  pub labels : (labels-new P-type ≡ true) × (labels-new (choice sending (or-branch "A" stop (one-branch "B" stop))) ≡ true) × (labels-new (choice sending (or-branch "A" stop (one-branch "A" stop))) ≡ false)
       × (labels-new (choice sending (or-branch "A" stop (or-branch "B" stop (one-branch "A" stop)))) ≡ false)
       × (labels-new (choice sending (or-branch "A" stop (or-branch "A" stop (one-branch "B" stop)))) ≡ false)
       × (labels-new (sends-A (sends-A stop)) ≡ true)
@@ -146,13 +161,13 @@ pub record TreesAsked : Type 0 where
   -- 8, of what is open
   pub depths : (depth stop ≡ 0) × (depth X ≡ 0) × (depth P-type ≡ 3) × (depth (choice sending (or-branch "A" stop (one-branch "B" (rec-X (sends-A X))))) ≡ 3)
   -- 19
-  pub shares : (shares-legal (A-B-shares none stop none) ≡ true) × (shares-legal (A-B-shares (some (plus 1)) stop (some (plus 1000))) ≡ true)
+  pub shares : (shares-legal P-type ≡ true) × (shares-legal (A-B-shares none stop none) ≡ true) × (shares-legal (A-B-shares (some (plus 1)) stop (some (plus 1000))) ≡ true)
       × (shares-legal (A-B-shares (some (plus 0)) stop none) ≡ false)
       × (shares-legal (A-B-shares none stop (some (plus 1001))) ≡ false)
       × (shares-legal (A-B-shares none stop (some (below-zero 1))) ≡ false)
       × (shares-legal (sends-A (A-B-shares (some (plus 0)) stop none)) ≡ false)
   -- 20
-  pub sums : (sums-right (A-B-shares none stop none) ≡ true) × (sums-right (A-B-shares (some (plus 400)) stop (some (plus 600))) ≡ true)
+  pub sums : (sums-right P-type ≡ true) × (sums-right (A-B-shares none stop none) ≡ true) × (sums-right (A-B-shares (some (plus 400)) stop (some (plus 600))) ≡ true)
       × (sums-right (A-B-shares (some (plus 400)) stop (some (plus 599))) ≡ false)
       × (sums-right (A-B-shares (some (plus 1000)) stop none) ≡ false)
       × (sums-right (A-B-shares none (A-B-shares (some (plus 1000)) stop none) none) ≡ false)

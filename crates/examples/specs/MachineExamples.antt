@@ -47,6 +47,9 @@ PP = table-rules P-seen
 
 pub record MovesPlayed : Type 0 where
   pub forwarded : run PP PP (device-says (ask 100) ∷ host-says ok ∷ device-says quit ∷ []) ≡ record { state = 2; position = 2; standing = running }
+  -- a device with states of its own: `+{!Quit().end}` under P
+  pub own-states : run (table-rules (of-states (T.sends ∷ T.ends ∷ []) (branch-to 0 (81 ∷ 117 ∷ 105 ∷ 116 ∷ 0 ∷ 0 ∷ 0 ∷ 0 ∷ []) [] 1 ∷ []))) PP (device-says quit ∷ [])
+      ≡ record { state = 1; position = 2; standing = running }
   -- "A device move sends a message of one of the device state's branches, numbers within its ranges: if the protocol allows it both go on ..., else the device is blamed;
   -- where the device's state isn't sending or has no such message, the move changes nothing."
   pub device-wide : run (table-rules (to-ten T.sends)) (table-rules (to-nine T.sends)) (device-says (A-int 10) ∷ [])

@@ -6,6 +6,7 @@ use mathlib.Core.List.{List, [], _∷_, _++_}
 use mathlib.Core.Option.{none, some}
 use Prim.Native.Nat.{ℕ}
 use lib.ListN.{replicate}
+use Rattle.table.specs.Table as T
 use Rattle.table.specs.View.{Words}
 use Rattle.message.specs.Message.{Value, read, number-at, refusal, well-formed, front-of, broken, has-label}
 use Rattle.message.specs.Make.{made, making}
@@ -117,6 +118,10 @@ abbrev pub A-made : ℕ → ℕ → ℕ → ℕ → List ℕ → List ℕ
 A-made sign int text flag spaces =
     one-letter 65 ++ (3 ∷ 0 ∷ 1 ∷ 2 ∷ sign ∷ sign ∷ sign ∷ int ∷ 0 ∷ 0 ∷ 0 ∷ text ∷ 0 ∷ 0 ∷ 0 ∷ flag ∷ spaces)
 
+-- `A` with an int of one number, plus 2^31
+abbrev pub A-from : ℕ → T.Branch
+A-from n = branch-to 0 (one-letter 65) (record { kind = 0; low = n; high = n } ∷ []) 1
+
 -- "every number low, or one named field high, texts filled with 0x20. It asks 9; 18. Does the branch exist, and has it the named field? Then 16. The answer is its
 -- length; the rest of the buffer is unchanged." "any count 0"
 pub record MessagesMade : Type 0 where
@@ -124,8 +129,11 @@ pub record MessagesMade : Type 0 where
   pub int-high : making three-kinds 0 (some 0) (replicate 25 7) ≡ record { numbers = (0, 25); buffer = A-made 0 3 1 0 (0x20 ∷ []) }
   pub text-high : making three-kinds 0 (some 1) (replicate 26 7) ≡ record { numbers = (0, 26); buffer = A-made 0xFF 0xFB 2 0 (0x20 ∷ 0x20 ∷ []) }
   pub flag-high : making three-kinds 0 (some 2) (replicate 26 7) ≡ record { numbers = (0, 25); buffer = A-made 0xFF 0xFB 1 1 (0x20 ∷ 7 ∷ []) }
-  -- the four bytes of 0x01020304
-  pub four-bytes : made (branch-to 0 (one-letter 65) (record { kind = 0; low = 2164392708; high = 2164392709 } ∷ []) 1) none ≡ A-of 0 (1 ∷ 2 ∷ 3 ∷ 4 ∷ []) []
+  -- the four bytes of the least int, of -1, of 0 and of the most; of 0x01020304
+  pub int-edges : (made (A-from 0) none ≡ A-of 0 (0x80 ∷ 0 ∷ 0 ∷ 0 ∷ []) []) × (made (A-from 2147483647) none ≡ A-of 0 (0xFF ∷ 0xFF ∷ 0xFF ∷ 0xFF ∷ []) [])
+      × (made (A-from 2147483648) none ≡ A-of 0 (0 ∷ 0 ∷ 0 ∷ 0 ∷ []) [])
+      × (made (A-from 4294967295) none ≡ A-of 0 (0x7F ∷ 0xFF ∷ 0xFF ∷ 0xFF ∷ []) [])
+  pub four-bytes : made (A-from 2164392708) none ≡ A-of 0 (1 ∷ 2 ∷ 3 ∷ 4 ∷ []) []
   pub no-room : making three-kinds 0 (some 1) (replicate 25 7) ≡ record { numbers = (16, 0); buffer = replicate 25 7 }
   -- 18, ahead of 16; 9, ahead of 18
   pub no-branch : making three-kinds 1 none [] ≡ record { numbers = (18, 0); buffer = [] }

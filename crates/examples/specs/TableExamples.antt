@@ -7,7 +7,7 @@ use Prim.Native.Nat.{ℕ, _+_, _/_, _%_}
 use lib.ListN.{take, replicate, set}
 use Rattle.table.specs.Lists.{upto}
 use Rattle.table.specs.Table as T
-use Rattle.table.specs.View.{Words, view, sound-of, sound-at, dual-of}
+use Rattle.table.specs.View.{Words, label-of, view, sound-of, sound-at, dual-of}
 use Rattle.examples.specs.Twelve.{P, E, table}
 use Rattle.examples.specs.Requests.{end-under, Q}
 
@@ -112,6 +112,11 @@ pub record TableWords : Type 0 where
         edition = 1;
       }
 
+-- "Label (8 bytes ..)": a label is kept as one number, high byte first
+pub record LabelWords : Type 0 where
+  pub bytes : label-of 0x0102030405060708 ≡ 1 ∷ 2 ∷ 3 ∷ 4 ∷ 5 ∷ 6 ∷ 7 ∷ 8 ∷ []
+  pub largest : label-of 0xFFFFFFFFFFFFFFFF ≡ replicate 8 255
+
 -- ---- sound
 
 -- a label of one letter, filled up
@@ -201,10 +206,31 @@ pub record SoundTables : Type 0 where
   -- "and a position given with it one of its states"
   pub positions : (sound-at P1 2 ≡ true) × (sound-at P1 3 ≡ false) × (sound-at [] 0 ≡ false)
 
--- "The dual exchanges sending and receiving"; "any table then given back is empty"
+-- two choices with three branches, the first of which the second owns; the sorts behind them belong to no state
+abbrev pub two-choice-words : List ℕ → Words
+two-choice-words sorts =
+    2 ∷ 3
+    ∷ end-to-end
+    (column 32 sorts
+    ∷ column 128 (1 ∷ 0 ∷ 1 ∷ [])
+    ∷ column 128 (0 ∷ 1 ∷ 1 ∷ [])
+    ∷ column 128 []
+    ∷ column 128 (0x41000000 ∷ 0x41000000 ∷ 0x42000000 ∷ [])
+    ∷ column 128 []
+    ∷ column 512 []
+    ∷ column 512 []
+    ∷ column 512 []
+    ∷ column 128 []
+    ∷ column 2 (1 ∷ [])
+    ∷ [])
+
+-- "The dual exchanges sending and receiving; the dual of the dual is the table itself"; "any table then given back is empty"
 pub record DualTables : Type 0 where
   pub dual : dual-of P1 ≡ record { question = 0; table = P-words (2 ∷ 1 ∷ 0 ∷ []) 1 }
   pub dual-under-two : dual-of P2 ≡ record { question = 0; table = P-words (2 ∷ 1 ∷ 0 ∷ []) 2 }
+  -- to the last of 32 sorts and no further, so that the dual of the dual is the table itself
+  pub all-sorts : dual-of (two-choice-words (1 ∷ 2 ∷ 0 ∷ 3 ∷ 4 ∷ replicate 27 1))
+      ≡ record { question = 0; table = two-choice-words (2 ∷ 1 ∷ 0 ∷ 3 ∷ 4 ∷ replicate 27 2) }
   pub refused : dual-of [] ≡ record { question = 9; table = replicate 2340 0 }
   pub of-lists : T.dual (of-shares 10 990)
       ≡ record { sorts = T.receives ∷ []; branches = of-shares 10 990 .branches; shares = 10 ∷ 990 ∷ []; edition = 1 }

@@ -27,6 +27,7 @@ unfolding GrammarBuilding.add-branch GrammarBuilding.add-share GrammarBuilding.a
 kinds-read =
     record {
       three-kinds = (refl, refl);
+      four-fields = (refl, refl);
       all-ints = (refl, refl);
       int-below = refl;
       int-far-below = refl;
@@ -91,6 +92,8 @@ names-read =
       outlives = refl;
       innermost = (refl, refl);
       eight-bytes = refl;
+      long-name = refl;
+      like-a-label = refl;
       other-choice = refl;
       host-first = refl;
       sent = refl;
@@ -133,6 +136,7 @@ share-edges =
       two-choices = refl;
       inner-none = refl;
       inner-first = refl;
+      rec-between = refl;
       twice = refl;
       no-number = refl;
     }

@@ -1,9 +1,10 @@
 -- The examples, computed. Printed by `tests/pins --proofs GrammarExamples`. Assumes nothing.
 use mathlib.Core.Path.{refl}
-use Rattle.examples.specs.GrammarExamples.{TreesMean, TreesAsked, TypesAllow}
+use Rattle.examples.specs.GrammarExamples.{TreesPrinted, TreesMean, TreesAsked, TypesAllow}
 use Rattle.grammar.specs.Grammar as GrammarGrammar
 use Rattle.grammar.specs.Number as GrammarNumber
 use Rattle.grammar.specs.Token as GrammarToken
+use Rattle.grammar.specs.inner.Scanner as GrammarScanner
 use Rattle.message.specs.Judge as MessageJudge
 use Rattle.message.specs.Message as MessageMessage
 use Rattle.message.specs.Rules as MessageRules
@@ -11,6 +12,20 @@ use Rattle.table.specs.Lists as TableLists
 use Rattle.table.specs.Table as TableTable
 use Rattle.table.specs.View as TableView
 use Rattle.types.specs.Types as TypesTypes
+
+pub trees-printed : TreesPrinted
+unfolding GrammarGrammar.tok-of GrammarNumber.signed-of GrammarNumber.value-of GrammarToken.packed GrammarToken.word-of GrammarScanner.begin-at
+    GrammarScanner.class-of GrammarScanner.dots-token GrammarScanner.name-token GrammarScanner.number-kind GrammarScanner.number-token
+    GrammarScanner.run-end GrammarScanner.run-of GrammarScanner.token-at GrammarScanner.tokens GrammarScanner.tokens-from GrammarScanner.word-kind
+    GrammarScanner.word-token TableLists.matched TableLists.same TableTable.letter-or-digit
+trees-printed =
+    record {
+      stops = refl;
+      loops = refl;
+      fields = refl;
+      shares = refl;
+      opening = refl;
+    }
 
 pub trees-mean : TreesMean
 unfolding GrammarGrammar.bind GrammarGrammar.nothing-bound GrammarGrammar.table-of GrammarNumber.offset GrammarToken.packed GrammarToken.word-of
@@ -32,15 +47,15 @@ unfolding GrammarGrammar.fields-legal GrammarGrammar.range-legal GrammarNumber.i
 trees-asked =
     record {
       bound = (refl, refl, refl, refl, refl, refl, refl);
-      guarded = (refl, refl, refl, refl, refl, refl, refl, refl);
+      guarded = (refl, refl, refl, refl, refl, refl, refl, refl, refl, refl);
       own-binder = (refl, refl);
-      ranged = (refl, refl, refl, refl, refl, refl, refl);
+      ranged = (refl, refl, refl, refl, refl, refl, refl, refl);
       four = (refl, refl);
       other-branches = (refl, refl, refl);
-      labels = (refl, refl, refl, refl, refl, refl);
+      labels = (refl, refl, refl, refl, refl, refl, refl);
       depths = (refl, refl, refl, refl);
-      shares = (refl, refl, refl, refl, refl, refl);
-      sums = (refl, refl, refl, refl, refl, refl);
+      shares = (refl, refl, refl, refl, refl, refl, refl);
+      sums = (refl, refl, refl, refl, refl, refl, refl);
       editions = (refl, refl, refl, refl, refl, refl);
     }
 

@@ -34,6 +34,7 @@ unfolding MachineMachine.after MachineMachine.all-forwarded MachineMachine.arriv
 moves-played =
     record {
       forwarded = refl;
+      own-states = refl;
       device-wide = refl;
       no-message-of-it = refl;
       not-sending = refl;

@@ -120,6 +120,7 @@ messages-made =
       int-high = refl;
       text-high = refl;
       flag-high = refl;
+      int-edges = (refl, refl, refl, refl);
       four-bytes = refl;
       no-room = refl;
       no-branch = refl;

@@ -1,6 +1,6 @@
 -- The examples, computed. Printed by `tests/pins --proofs TableExamples`. Assumes nothing.
 use mathlib.Core.Path.{refl}
-use Rattle.examples.specs.TableExamples.{TableWords, SoundTables, DualTables}
+use Rattle.examples.specs.TableExamples.{TableWords, LabelWords, SoundTables, DualTables}
 use Rattle.examples.specs.Requests as ExamplesRequests
 use Rattle.examples.specs.Twelve as ExamplesTwelve
 use Rattle.grammar.specs.Building as GrammarBuilding
@@ -34,6 +34,14 @@ table-words =
       end-seen = refl;
       two-fields-read = refl;
       two-fields-seen = refl;
+    }
+
+pub label-words : LabelWords
+unfolding TableView.label-of
+label-words =
+    record {
+      bytes = refl;
+      largest = refl;
     }
 
 pub sound-tables : SoundTables
@@ -81,6 +89,7 @@ dual-tables =
     record {
       dual = refl;
       dual-under-two = refl;
+      all-sorts = refl;
       refused = refl;
       of-lists = refl;
       of-P = refl;
