@@ -16,10 +16,9 @@ use Rattle.conversation.specs.Warning as W
 use Rattle.machine.specs.Answer as F
 use Rattle.codes.specs.Codes as C
 use Rattle.codes.specs.Calls.{step-codes, batching-codes, due-codes}
-use Rattle.examples.specs.Twelve.{ask, ok}
+use Rattle.examples.specs.Twelve.{ask, ok, P-counts}
 use Rattle.examples.specs.TableExamples.{P1}
 use Rattle.examples.specs.StepExamples.{at-position, quit}
-use Rattle.examples.specs.CountExamples.{P-counts}
 
 pub record CodesTold : Type 0 where
   -- sides: 0 device, 1 host; any other is none

@@ -14,20 +14,17 @@ use Rattle.conversation.specs.Step.{refused, blamed, forwarded, fresh}
 use Rattle.conversation.specs.Due.{of-side}
 use Rattle.conversation.specs.Due as D
 use Rattle.conversation.specs.Conversation.{conversation}
-use Rattle.conversation.specs.Counts.{Counts, counts-sound, starting, fresh-counts, counted-step, counted-turn}
-use Rattle.conversation.specs.Counting.{picks, forwarded-at, times, counts-after}
+use Rattle.conversation.specs.Counts.{counts-sound, starting, fresh-counts, counted-step, counted-turn}
+use Rattle.conversation.specs.Batches.{counts-after}
+use Rattle.conversation.specs.Counting.{picks, forwarded-at, times}
 use Rattle.conversation.specs.Warning.{warns, estimate, warning, notice-of}
 use Rattle.conversation.specs.Warning as W
-use Rattle.examples.specs.Twelve.{ok, gives, table}
-use Rattle.examples.specs.Requests.{shared-text}
+use Rattle.examples.specs.Twelve.{ok, gives, table, P-counts}
+use Rattle.examples.specs.Requests.{shared-text, two-counts}
 use Rattle.examples.specs.TableExamples.{P1}
 use Rattle.examples.specs.StepExamples.{at-position, quit, six-sent}
 
 -- ---- counts
-
--- under P: the setting z, n of states 0 and 1, k of Ask, Ok and Quit; 161 numbers in all
-abbrev pub P-counts : ℕ → ℕ → ℕ → ℕ → ℕ → ℕ → Counts
-P-counts z n m ask ok quit = z ∷ n ∷ m ∷ (replicate 30 0 ++ (ask ∷ ok ∷ quit ∷ replicate 125 0))
 
 -- "21 for z outside 1 to 1000, when a conversation is made, after 9"
 pub record ConversationsStarted : Type 0 where
@@ -76,10 +73,6 @@ pub record CountsTallied : Type 0 where
   pub times : (times 2 (0 ∷ 2 ∷ 2 ∷ 1 ∷ []) ≡ 2) × (times 2 [] ≡ 0)
 
 -- ---- warnings
-
--- counts of two branches of one choice: z, n, and k of either
-abbrev pub two-counts : ℕ → ℕ → ℕ → ℕ → Counts
-two-counts z n k l = z ∷ n ∷ (replicate 31 0 ++ (k ∷ l ∷ replicate 126 0))
 
 -- "a branch warns exactly while 10,000 × (1,000k - wn)² is greater than z² × w × (1,000 - w) × n. The edge is inside." "The estimate 1,000k / n is shown to the nearest
 -- whole, halves up; while n is 0 there is none."

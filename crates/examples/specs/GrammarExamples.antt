@@ -22,12 +22,12 @@ use Rattle.types.specs.Types.{protocol-rules, dual-type, dual-protocol, flip}
 use Rattle.spelling.specs.SpellingExamples.{plus, unopened, P-type}
 use Rattle.examples.specs.Twelve.{ask, ok}
 use Rattle.examples.specs.TableExamples.{P-under, P-seen, one-letter, branch-to}
-use Rattle.examples.specs.StepExamples.{quit, ask-flag, from}
+use Rattle.examples.specs.StepExamples.{quit, ask-flag, said-from}
 
 -- ---- trees
 
-abbrev pub called : String → ℕ
-called x = word-of (ascii x)
+abbrev pub word-called : String → ℕ
+word-called x = word-of (ascii x)
 
 abbrev pub below-zero : ℕ → Signed
 below-zero n = record { minus = true; value = n }
@@ -37,23 +37,23 @@ ranging k l h = record { kind = k; low = l; high = h }
 
 -- branches without fields or shares
 abbrev pub one-branch : String → Ty → Br
-one-branch l t = last (called l) [] none t
+one-branch l t = last (word-called l) [] none t
 
 abbrev pub or-branch : String → Ty → Br → Br
-or-branch l t bs = also (called l) [] none t bs
+or-branch l t bs = also (word-called l) [] none t bs
 
 -- `rec X.X` and so on
 abbrev pub X : Ty
-X = var (called "X")
+X = var (word-called "X")
 
 abbrev pub Y : Ty
-Y = var (called "Y")
+Y = var (word-called "Y")
 
 abbrev pub rec-X : Ty → Ty
-rec-X t = loop (called "X") t
+rec-X t = loop (word-called "X") t
 
 abbrev pub rec-Y : Ty → Ty
-rec-Y t = loop (called "Y") t
+rec-Y t = loop (word-called "Y") t
 
 -- `+{!A().t}`
 abbrev pub sends-A : Ty → Ty
@@ -61,14 +61,14 @@ sends-A t = choice sending (one-branch "A" t)
 
 -- `+{!A(fields).end}` and `+{!B().end,!A(fields).&{?C().end}}`
 abbrev pub A-fields : List SyntaxField → Ty
-A-fields fs = choice sending (last (called "A") fs none stop)
+A-fields fs = choice sending (last (word-called "A") fs none stop)
 
 abbrev pub A-fields-second : List SyntaxField → Ty
-A-fields-second fs = choice sending (or-branch "B" stop (last (called "A") fs none (choice receiving (one-branch "C" stop))))
+A-fields-second fs = choice sending (or-branch "B" stop (last (word-called "A") fs none (choice receiving (one-branch "C" stop))))
 
 -- `+{!A()@v.t,!B()@w.end}`
 abbrev pub A-B-shares : Share → Ty → Share → Ty
-A-B-shares v t w = choice sending (also (called "A") [] v t (last (called "B") [] w stop))
+A-B-shares v t w = choice sending (also (word-called "A") [] v t (last (word-called "B") [] w stop))
 
 -- `rec X.+{!A().rec X.&{?B().X}}`: a name means the innermost `rec` of that name
 abbrev pub inner-X : Ty
@@ -97,7 +97,7 @@ pub record TreesMean : Type 0 where
   pub under-two : table-of (record { opening = some (plus 2); type = P-type }) ≡ P-under 2
   -- `+{!A()@300.&{?B().end},!C()@700.end}`: a branch behind what is nested in the one before
   pub in-order : table-of
-      (unopened (choice sending (also (called "A") [] (some (plus 300)) (choice receiving (one-branch "B" stop)) (last (called "C") [] (some (plus 700)) stop))))
+      (unopened (choice sending (also (word-called "A") [] (some (plus 300)) (choice receiving (one-branch "B" stop)) (last (word-called "C") [] (some (plus 700)) stop))))
       ≡ record {
         sorts = T.sends ∷ T.receives ∷ T.ends ∷ T.ends ∷ [];
         branches = branch-to 0 (one-letter 65) [] 1 ∷ branch-to 1 (one-letter 66) [] 2 ∷ branch-to 0 (one-letter 67) [] 3 ∷ [];
@@ -151,7 +151,7 @@ pub record TreesAsked : Type 0 where
   pub four : (branches-legal (A-fields (replicate 4 (ranging int (plus 5) (plus 5)))) ≡ true) × (branches-legal (A-fields (replicate 5 (ranging int (plus 5) (plus 5)))) ≡ false)
   pub other-branches : (branches-legal (A-fields-second (ranging int (plus 5) (plus 4) ∷ [])) ≡ false)
       × (branches-legal (rec-X (sends-A (A-fields (ranging int (plus 5) (plus 4) ∷ [])))) ≡ false)
-      × (branches-legal (choice sending (also (called "A") (ranging int (plus 5) (plus 4) ∷ []) none stop (one-branch "B" stop))) ≡ false)
+      × (branches-legal (choice sending (also (word-called "A") (ranging int (plus 5) (plus 4) ∷ []) none stop (one-branch "B" stop))) ≡ false)
   -- 7
   pub labels : (labels-new P-type ≡ true) × (labels-new (choice sending (or-branch "A" stop (one-branch "B" stop))) ≡ true) × (labels-new (choice sending (or-branch "A" stop (one-branch "A" stop))) ≡ false)
       × (labels-new (choice sending (or-branch "A" stop (or-branch "B" stop (one-branch "A" stop)))) ≡ false)
@@ -191,12 +191,12 @@ C-bare = 67 ∷ 0 ∷ 0 ∷ 0 ∷ 0 ∷ 0 ∷ 0 ∷ 0 ∷ 0 ∷ []
 
 -- source document 001's transitions: a choice goes on by a branch, a `rec` as its body with the name replaced by it
 pub record TypesAllow : Type 0 where
-  pub completes : (completed-list (protocol-rules (unopened P-type)) (from Device (ask 100) ∷ from Host ok ∷ from Device quit ∷ []) ≡ true)
-      × (completed-list (protocol-rules (unopened P-type)) (from Device (ask 100) ∷ from Host ok ∷ []) ≡ false)
-      × (allowed-list (protocol-rules (unopened P-type)) (from Device (ask 100) ∷ from Host ok ∷ from Device (ask 0) ∷ []) ≡ true)
-  pub forbids : (allowed-list (protocol-rules (unopened P-type)) (from Device (ask 101) ∷ []) ≡ false)
-      × (allowed-list (protocol-rules (unopened P-type)) (from Host quit ∷ []) ≡ false)
-      × (allowed-list (protocol-rules (unopened P-type)) (from Device quit ∷ from Device quit ∷ []) ≡ false)
+  pub completes : (completed-list (protocol-rules (unopened P-type)) (said-from Device (ask 100) ∷ said-from Host ok ∷ said-from Device quit ∷ []) ≡ true)
+      × (completed-list (protocol-rules (unopened P-type)) (said-from Device (ask 100) ∷ said-from Host ok ∷ []) ≡ false)
+      × (allowed-list (protocol-rules (unopened P-type)) (said-from Device (ask 100) ∷ said-from Host ok ∷ said-from Device (ask 0) ∷ []) ≡ true)
+  pub forbids : (allowed-list (protocol-rules (unopened P-type)) (said-from Device (ask 101) ∷ []) ≡ false)
+      × (allowed-list (protocol-rules (unopened P-type)) (said-from Host quit ∷ []) ≡ false)
+      × (allowed-list (protocol-rules (unopened P-type)) (said-from Device quit ∷ said-from Device quit ∷ []) ≡ false)
   -- the reasons
   pub judges : (protocol-rules (unopened P-type) .judge P-type (read ok) ≡ forbidden 1 none)
       × (protocol-rules (unopened P-type) .judge P-type (read ask-flag) ≡ forbidden 2 none)
@@ -206,19 +206,19 @@ pub record TypesAllow : Type 0 where
       × (protocol-rules (unopened P-type) .sort (rec-X (rec-Y (choice receiving (one-branch "B" X)))) ≡ T.receives)
   pub editions-of : (protocol-rules (unopened stop) .edition ≡ 1) × (protocol-rules (record { opening = some (plus 2); type = stop }) .edition ≡ 2)
   -- after A, the inner `rec`'s B again and again, and A no more
-  pub innermost-again : (allowed-list (protocol-rules (unopened inner-X)) (from Device A-bare ∷ from Host B-bare ∷ from Host B-bare ∷ []) ≡ true)
-      × (allowed-list (protocol-rules (unopened inner-X)) (from Device A-bare ∷ from Host B-bare ∷ from Device A-bare ∷ []) ≡ false)
+  pub innermost-again : (allowed-list (protocol-rules (unopened inner-X)) (said-from Device A-bare ∷ said-from Host B-bare ∷ said-from Host B-bare ∷ []) ≡ true)
+      × (allowed-list (protocol-rules (unopened inner-X)) (said-from Device A-bare ∷ said-from Host B-bare ∷ said-from Device A-bare ∷ []) ≡ false)
   -- a name of the outer `rec` goes back through the inner one
-  pub outer-again : (allowed-list (protocol-rules (unopened (rec-Y (sends-A (rec-X (choice receiving (or-branch "B" X (one-branch "C" Y)))))))) (from Device A-bare
-      ∷ from Host B-bare
-      ∷ from Host C-bare
-      ∷ from Device A-bare
+  pub outer-again : (allowed-list (protocol-rules (unopened (rec-Y (sends-A (rec-X (choice receiving (or-branch "B" X (one-branch "C" Y)))))))) (said-from Device A-bare
+      ∷ said-from Host B-bare
+      ∷ said-from Host C-bare
+      ∷ said-from Device A-bare
       ∷ []) ≡ true)
-      × (allowed-list (protocol-rules (unopened (rec-Y (sends-A (rec-X (choice receiving (or-branch "B" X (one-branch "C" Y)))))))) (from Device A-bare
-      ∷ from Host C-bare
-      ∷ from Host B-bare
+      × (allowed-list (protocol-rules (unopened (rec-Y (sends-A (rec-X (choice receiving (or-branch "B" X (one-branch "C" Y)))))))) (said-from Device A-bare
+      ∷ said-from Host C-bare
+      ∷ said-from Host B-bare
       ∷ []) ≡ false)
   -- "The dual exchanges sending and receiving; the dual of the dual is the table itself"
   pub duals : (table-of (dual-protocol (record { opening = some (plus 2); type = P-type })) ≡ T.dual (P-under 2)) × (dual-type (dual-type P-type) ≡ P-type)
       × (dual-type (choice sending (or-branch "A" X (one-branch "B" stop))) ≡ choice receiving (or-branch "A" X (one-branch "B" stop)))
-  pub other-side : (flip (from Device ok) ≡ from Host ok) × (flip (from Host ok) ≡ from Device ok)
+  pub other-side : (flip (said-from Device ok) ≡ said-from Host ok) × (flip (said-from Host ok) ≡ said-from Device ok)

@@ -39,8 +39,8 @@ abbrev pub to-ten : T.Sort → T.Table
 to-ten s = one-range s 0 2147483648 2147483658
 
 -- A up to 10, and then nobody is at an end
-abbrev pub goes-on : T.Table
-goes-on = of-states (T.sends ∷ T.sends ∷ []) (to-ten T.sends .branches)
+abbrev pub never-ends : T.Table
+never-ends = of-states (T.sends ∷ T.sends ∷ []) (to-ten T.sends .branches)
 
 abbrev pub PP : Rules ℕ
 PP = table-rules P-seen
@@ -76,7 +76,7 @@ pub record MovesPlayed : Type 0 where
   pub stays-jammed : run (table-rules (to-nine T.receives)) (table-rules (to-ten T.receives)) (host-says (A-int 10) ∷ host-says (A-int 9) ∷ [])
       ≡ record { state = 0; position = 0; standing = jammed }
   -- "While running, it is jammed as soon as the two states differ in sort (end, sending, receiving), before any move too"
-  pub sorts-differ : run (table-rules (to-ten T.sends)) (table-rules goes-on) (device-says (A-int 10) ∷ []) ≡ record { state = 1; position = 1; standing = jammed }
+  pub sorts-differ : run (table-rules (to-ten T.sends)) (table-rules never-ends) (device-says (A-int 10) ∷ []) ≡ record { state = 1; position = 1; standing = jammed }
   pub before-any : (run (table-rules (to-ten T.sends)) (table-rules (to-ten T.receives)) [] .standing ≡ jammed)
       × (run (table-rules E-seen) (table-rules (to-ten T.receives)) [] .standing ≡ jammed)
       × (run (table-rules E-seen) PP [] ≡ record { state = 0; position = 0; standing = jammed })
@@ -97,8 +97,8 @@ pub record MovesPlayed : Type 0 where
 abbrev pub one-kind : ℕ → T.Table
 one-kind k = one-range T.sends k 2147483648 2147483648
 
-abbrev pub no-fields : T.Table
-no-fields = of-states (T.sends ∷ T.ends ∷ []) (branch-to 0 (one-letter 65) [] 1 ∷ [])
+abbrev pub without-fields : T.Table
+without-fields = of-states (T.sends ∷ T.ends ∷ []) (branch-to 0 (one-letter 65) [] 1 ∷ [])
 
 -- two branches, A and B, of a sort
 abbrev pub A-or-B-of : T.Sort → T.Table
@@ -121,16 +121,16 @@ pub record RightPairs : Type 0 where
       × (right (one-range T.receives 0 4 10) (one-range T.receives 0 5 9) 0 0 ≡ true)
       × (right (one-range T.receives 0 6 9) (one-range T.receives 0 5 9) 0 0 ≡ false)
       × (right (one-range T.receives 0 5 8) (one-range T.receives 0 5 9) 0 0 ≡ false)
-  pub kinds : (right (one-kind 1) (one-kind 1) 0 0 ≡ true) × (right (one-kind 1) (one-kind 2) 0 0 ≡ false) × (right no-fields (one-kind 1) 0 0 ≡ false)
-      × (right (one-kind 1) no-fields 0 0 ≡ false)
+  pub kinds : (right (one-kind 1) (one-kind 1) 0 0 ≡ true) × (right (one-kind 1) (one-kind 2) 0 0 ≡ false) × (right without-fields (one-kind 1) 0 0 ≡ false)
+      × (right (one-kind 1) without-fields 0 0 ≡ false)
   pub labels : (right (only-B T.sends) (A-or-B-of T.sends) 0 0 ≡ true) × (right (A-or-B-of T.sends) (only-B T.sends) 0 0 ≡ false)
       × (right (A-or-B-of T.receives) (only-B T.receives) 0 0 ≡ true)
       × (right (only-B T.receives) (A-or-B-of T.receives) 0 0 ≡ false)
-  pub ends : (right E-seen E-seen 0 0 ≡ true) × (right no-fields no-fields 0 1 ≡ false) × (right no-fields no-fields 1 0 ≡ false)
+  pub ends : (right E-seen E-seen 0 0 ≡ true) × (right without-fields without-fields 0 1 ≡ false) × (right without-fields without-fields 1 0 ≡ false)
       × (right (only-B T.sends) (only-B T.receives) 0 0 ≡ false)
       × (right (only-B T.receives) (only-B T.sends) 0 0 ≡ false)
   -- a branch of another state does not count
-  pub own-branches : (right no-fields B-then-A 0 0 ≡ false) × (right no-fields B-then-A 0 1 ≡ true) × (right B-then-A (only-B T.sends) 0 0 ≡ true)
+  pub own-branches : (right without-fields B-then-A 0 0 ≡ false) × (right without-fields B-then-A 0 1 ≡ true) × (right B-then-A (only-B T.sends) 0 0 ≡ true)
       × (right B-then-A (only-B T.sends) 1 0 ≡ false)
 
 -- ---- the check

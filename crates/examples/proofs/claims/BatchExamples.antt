@@ -35,7 +35,7 @@ unfolding ConversationBatch.batch-questions ConversationBatch.batching Conversat
     GrammarReading.built GrammarReading.choice-sort GrammarReading.closed GrammarReading.edition-known GrammarReading.grammar-allows
     GrammarReading.guarded GrammarReading.kind-of GrammarReading.meaning GrammarReading.name-bound GrammarReading.new-label GrammarReading.questions
     GrammarReading.ranged GrammarReading.reads GrammarReading.run-tokens GrammarReading.share-ranged GrammarReading.shares-add GrammarReading.sign-of
-    GrammarReading.stored GrammarReading.taken GrammarReading.target GrammarReading.token-formed GrammarReading.unguarded GrammarReading.within
+    GrammarReading.stored GrammarReading.taken GrammarReading.target GrammarReading.token-formed GrammarReading.unguarded GrammarReading.within-limits
     GrammarToken.packed GrammarToken.word-of GrammarScanner.begin-at GrammarScanner.class-of GrammarScanner.dots-token GrammarScanner.name-token
     GrammarScanner.number-kind GrammarScanner.number-token GrammarScanner.run-end GrammarScanner.run-of GrammarScanner.token-at GrammarScanner.tokens
     GrammarScanner.tokens-from GrammarScanner.word-kind GrammarScanner.word-token MessageJudge.allows MessageJudge.by-fields MessageJudge.by-range
