@@ -1,4 +1,5 @@
--- What the scanner finds in a text is what the text spells. Nothing else that is to be believed names the scanner.
+-- What the scanner finds in a text is what the text spells. (Reading goes over what the scanner finds; TextTheorems.antt, ReadPlaced, says what it
+-- does without it.)
 -- Assumes nothing.
 use mathlib.Core.Path.{_≡_}
 use mathlib.Core.Logic.{_↔_}

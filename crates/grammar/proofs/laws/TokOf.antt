@@ -29,10 +29,10 @@ three-ways s k x h = go (eqb (k .kind) 65) refl (eqb (k .kind) 48) refl h
     go false e false f h = inr (inr (sym h))
 
 -- the three are told apart
-abbrev pub tag : Tok → ℕ
-tag (word x) = 0
-tag (number n) = 1
-tag (sign n) = 2
+abbrev pub tok-tag : Tok → ℕ
+tok-tag (word x) = 0
+tok-tag (number n) = 1
+tok-tag (sign n) = 2
 
 abbrev pub word-in-is : Tok → ℕ
 word-in-is (word x) = x
@@ -53,8 +53,8 @@ pub sign-kind : (s : List ℕ) (k : Token) (n : ℕ) → tok-of s k ≡ sign n �
 sign-kind s k n h = go (three-ways s k (sign n) h)
   where
     go : Kinds s k (sign n) → k .kind ≡ n
-    go (inl e) = absurd (omega (arith, ap tag (e .1)))
-    go (inr (inl e)) = absurd (omega (arith, ap tag (e .1)))
+    go (inl e) = absurd (omega (arith, ap tok-tag (e .1)))
+    go (inr (inl e)) = absurd (omega (arith, ap tok-tag (e .1)))
     go (inr (inr e)) = sym (ap sign-in e)
 
 pub word-kind : (s : List ℕ) (k : Token) (x : ℕ) → tok-of s k ≡ word x → (k .kind ≡ 65) × (word-in s k ≡ x)
@@ -62,16 +62,16 @@ word-kind s k x h = go (three-ways s k (word x) h)
   where
     go : Kinds s k (word x) → (k .kind ≡ 65) × (word-in s k ≡ x)
     go (inl e) = (e .0, sym (ap word-in-is (e .1)))
-    go (inr (inl e)) = absurd (omega (arith, ap tag (e .1)))
-    go (inr (inr e)) = absurd (omega (arith, ap tag e))
+    go (inr (inl e)) = absurd (omega (arith, ap tok-tag (e .1)))
+    go (inr (inr e)) = absurd (omega (arith, ap tok-tag e))
 
 pub number-kind : (s : List ℕ) (k : Token) (n : Signed) → tok-of s k ≡ number n → (k .kind ≡ 48) × (signed-in s k ≡ n)
 number-kind s k n h = go (three-ways s k (number n) h)
   where
     go : Kinds s k (number n) → (k .kind ≡ 48) × (signed-in s k ≡ n)
-    go (inl e) = absurd (omega (arith, ap tag (e .1)))
+    go (inl e) = absurd (omega (arith, ap tok-tag (e .1)))
     go (inr (inl e)) = (e .0, sym (ap (number-in n) (e .1)))
-    go (inr (inr e)) = absurd (omega (arith, ap tag e))
+    go (inr (inr e)) = absurd (omega (arith, ap tok-tag e))
 
 -- and the other way round
 pub kind-sign : (s : List ℕ) (k : Token) (n : ℕ) → (n ≡ 65 → ⊥) → (n ≡ 48 → ⊥) → k .kind ≡ n → tok-of s k ≡ sign n

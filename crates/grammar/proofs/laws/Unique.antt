@@ -9,7 +9,7 @@ use Rattle.grammar.specs.Number.{Signed}
 use Rattle.grammar.specs.Grammar.{sending, receiving, Kind, int, text, flag, SyntaxField, Share, Ty, stop, var, loop, choice, Br, last, also, Protocol, Tok, word, number, sign, letter, print-field, print-more, print-fields, print-share, print-head, print, print-br, print-opening, print-text}
 use Rattle.grammar.specs.inner.Writes.{Writes}
 use Rattle.grammar.proofs.laws.RunTokens.{first-is, rest-is}
-use Rattle.grammar.proofs.laws.TokOf.{tag, word-in-is, number-in, sign-in}
+use Rattle.grammar.proofs.laws.TokOf.{tok-tag, word-in-is, number-in, sign-in}
 
 -- ---- tokens
 
@@ -23,7 +23,7 @@ signs-same : {x y : ℕ} → sign x ≡ sign y → x ≡ y
 signs-same e = ap sign-in e
 
 no-word : {x y : ℕ} → sign x ≡ word y → ⊥
-no-word e = omega (arith, ap tag e)
+no-word e = omega (arith, ap tok-tag e)
 
 -- ---- fields
 

@@ -1,5 +1,5 @@
 -- How the program finds the tokens of a text, from the left. It need not be believed: what a text spells is said without it, and the two are
--- the same (spelling/specs/TextTheorems.antt, SpeltScanned and ReadPlaced).
+-- the same (in spelling/specs, SpeltScanned of Scanned.antt and ReadPlaced of TextTheorems.antt).
 -- Assumes nothing.
 use mathlib.Core.Bool.{Bool, _&&_, cond}
 use mathlib.Core.List.{List, [], _∷_}

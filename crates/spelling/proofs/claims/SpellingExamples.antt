@@ -11,7 +11,7 @@ use Rattle.grammar.specs.inner.Scanner.{class-of, run-of, run-end, word-kind, w
 use Rattle.grammar.specs.Number.{signed-of, value-of}
 use Rattle.grammar.specs.Grammar.{stop, Tok, sign}
 use Rattle.grammar.specs.TokOf.{tok-of}
-use Rattle.grammar.proofs.laws.TokOf.{tag, sign-in}
+use Rattle.grammar.proofs.laws.TokOf.{tok-tag, sign-in}
 use Rattle.spelling.specs.Spelling.{Spelt}
 use Rattle.spelling.specs.Scanned.{WellFormed}
 use Rattle.spelling.specs.SpellingExamples.{plus, unopened, P-type, two-shares, SpellingExamples}
@@ -37,10 +37,10 @@ examples = record {
   protocol = spelt-scanned _ _ .1 (refl, text-formed (unopened P-type));
   blanks = spelt-scanned _ _ .1 (refl, text-formed (unopened stop));
   tab = λ ts. nothing-spelt _ _ ts refl;
-  two-tokens = spelt-scanned _ _ .1 (refl, ((λ e. omega (arith, ap tag e)), ((λ e. omega (arith, ap tag e)), ((λ e. omega (arith, ap sign-in e)), tt))));
-  eight = spelt-scanned _ _ .1 (refl, ((λ e. omega (arith, ap tag e)), ((λ e. omega (arith, ap sign-in e)), tt)));
+  two-tokens = spelt-scanned _ _ .1 (refl, ((λ e. omega (arith, ap tok-tag e)), ((λ e. omega (arith, ap tok-tag e)), ((λ e. omega (arith, ap sign-in e)), tt))));
+  eight = spelt-scanned _ _ .1 (refl, ((λ e. omega (arith, ap tok-tag e)), ((λ e. omega (arith, ap sign-in e)), tt)));
   nine = λ ts. nothing-spelt _ _ ts refl;
-  negative = spelt-scanned _ _ .1 (refl, ((λ e. omega (arith, ap tag e)), ((λ e. omega (arith, ap sign-in e)), tt)));
+  negative = spelt-scanned _ _ .1 (refl, ((λ e. omega (arith, ap tok-tag e)), ((λ e. omega (arith, ap sign-in e)), tt)));
   minus-zero = λ ts. nothing-spelt _ _ ts refl;
   leading-zero = λ ts. nothing-spelt _ _ ts refl;
   share = spelt-scanned _ _ .1 (refl, text-formed (unopened two-shares));

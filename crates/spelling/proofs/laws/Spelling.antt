@@ -22,7 +22,7 @@ use Rattle.grammar.specs.declared.token.Class.the-variants.{Space, Lower, Upper
 use Rattle.grammar.specs.declared.token.Token.{Token}
 use Rattle.grammar.proofs.laws.RunOf.{run-on, run-off, run-out}
 use Rattle.grammar.proofs.laws.TokenAt.{onward}
-use Rattle.grammar.proofs.laws.TokOf.{tag, sign-in, kind-sign}
+use Rattle.grammar.proofs.laws.TokOf.{tok-tag, sign-in, kind-sign}
 use Rattle.table.specs.Ascii.{ascii}
 use Rattle.spelling.specs.Spelling.{a-digit, dot-byte, blank, sign-tokens, dot-tokens, word-tokens, Listed, Spells, a-sign, a-dot, a-word, a-name, a-zero, a-number, a-negative, EndsRun, Spelt, ran-out, a-blank, a-token}
 use Rattle.spelling.specs.Places.{Begins}
@@ -316,10 +316,10 @@ pub spells-formed : {t : Tok} {w : List ℕ} {more : ℕ → Bool} → Spells t 
 spells-formed (a-sign {k} {w} l) e = listed-formed sign-tokens k w (refl, (refl, (refl, (refl, (refl, (refl, (refl, (refl, (refl, (refl, (refl, (refl, tt)))))))))))) l e
 spells-formed (a-dot {k} {w} l) e = listed-formed dot-tokens k w (refl, (refl, tt)) l e
 spells-formed (a-word {k} {w} l) e = listed-formed word-tokens k w (refl, (refl, (refl, (refl, (refl, (refl, tt)))))) l e
-spells-formed (a-name h) e = omega (arith, ap tag e)
-spells-formed a-zero e = omega (arith, ap tag e)
-spells-formed (a-number h) e = omega (arith, ap tag e)
-spells-formed (a-negative h) e = omega (arith, ap tag e)
+spells-formed (a-name h) e = omega (arith, ap tok-tag e)
+spells-formed a-zero e = omega (arith, ap tok-tag e)
+spells-formed (a-number h) e = omega (arith, ap tok-tag e)
+spells-formed (a-negative h) e = omega (arith, ap tok-tag e)
 
 pub spelt-formed : {s : List ℕ} {ts : List Tok} → Spelt s ts → WellFormed ts
 spelt-formed ran-out = ((λ e. omega (arith, ap sign-in e)), tt)
