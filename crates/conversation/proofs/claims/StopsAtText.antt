@@ -29,13 +29,15 @@ use Rattle.conversation.proofs.laws.Batch.{due-broken, untouched, takes
 use Rattle.conversation.proofs.laws.Both.{at-each, set-same}
 use Rattle.conversation.proofs.laws.Turns.{lane-still}
 
-module _ (t : Words) (s : State) (c : Counts) (side : Party) (message rest : List ℕ) (a : counted-turn t s c ≡ of-side side) (e : refusal message ≡ 22) where
+module _ (t : Words) (s : State) (c : Counts) (side : Party) (message rest : List ℕ) (a : counted-turn t s c ≡ of-side side)
+    (e : refusal message ≡ 22) where
   -- 9 got a yes
   turn : (counts-sound t c ≡ true) × (awaited t s ≡ of-side side)
   unfolding counted-turn
   turn = by (counts-sound t c) refl a
     where
-      by : (y : Bool) → counts-sound t c ≡ y → cond y (awaited t s) (Due.refused 9) ≡ of-side side → (counts-sound t c ≡ true) × (awaited t s ≡ of-side side)
+      by : (y : Bool) → counts-sound t c ≡ y → cond y (awaited t s) (Due.refused 9) ≡ of-side side
+          → (counts-sound t c ≡ true) × (awaited t s ≡ of-side side)
       by true k h = (k, h)
       by false k h = absurd (no-turn h)
 
@@ -62,7 +64,8 @@ module _ (t : Words) (s : State) (c : Counts) (side : Party) (message rest : Lis
       (lane-still t s c side (message ++ rest) (untouched out) 22 (length message) message)
 
   -- the first turn is the last
-  turns-refused : (l : Both Left) → at-side side l .bytes ≡ message ++ rest → one-turn t l (begun s c l none) ≡ (some (refused 22), begun s c l (some (refused 22)))
+  turns-refused : (l : Both Left) → at-side side l .bytes ≡ message ++ rest
+      → one-turn t l (begun s c l none) ≡ (some (refused 22), begun s c l (some (refused 22)))
   unfolding begun turn-of took latest
   turns-refused l w =
       turn-is t l (begun s c l none) (of-side side) (turn .1)

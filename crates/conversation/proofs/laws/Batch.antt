@@ -1,4 +1,4 @@
--- A batch: that question 9 need be asked but once, what a due message is still asked, and that every turn keeps counts and position
+-- A batch: that question 9 need be asked but once, what a due message is still asked, and that every turn keeps lanes and position
 -- within.
 -- Assumes nothing.
 use mathlib.Core.Path.{_≡_, refl, sym, ap, subst, _∙_}
@@ -185,7 +185,7 @@ module _ (t : Words) (s : State) (c : Counts) (side : Party) (bytes : List ℕ) 
       pub below-in : sound-at t (stepping t s side message room .state .position) ≡ true
       below-in = parts-sound t _ (due-sound t s side message room (now-due n)) (k .below)
 
-  -- counts and position stay within, and a forwarded message is used
+  -- lane and position stay within, and a forwarded message is used
   pub record Moved (x : Taken) : Type 0 where
     pub inside : LaneIn bytes (x .lane)
     pub sound : sound-at t (x .state .position) ≡ true

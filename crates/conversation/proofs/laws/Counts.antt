@@ -412,7 +412,7 @@ module _ (t : Words) (position : ℕ) (message : List ℕ) (c : Counts) where
   raised-at-is o e = ap (raised-by c position) e
 
   -- what holds of the counts, and once any branch of the position is taken
-  pub raised-at-by : (P : Counts → Type 0) → P c → ((b : ℕ) → b < branches-of t → owner-at t b ≡ position → P (raised c position b))
+  raised-at-by : (P : Counts → Type 0) → P c → ((b : ℕ) → b < branches-of t → owner-at t b ≡ position → P (raised c position b))
       → P (raised-at t position message c)
   unfolding raised-by
   raised-at-by P h k = by (selected (view t) position (read message)) refl

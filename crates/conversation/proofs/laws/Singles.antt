@@ -367,9 +367,8 @@ module _ (t : Words) where
       (subst (λ k. Singly t (e .done .state) k r) (sym (one-leaves t s c l e f)) x))
       ∙ one-then t s c l e r
 
--- ---- and played
+-- ---- and steps of a conversation
 
--- the events are what their messages make of the state
 pub singly-played : (t : Words) {s : State} {l : Both Left} {events : List Event} → Singly t s l events → Played t s events
 unfolding played
 singly-played t (none-due h) = refl

@@ -23,12 +23,12 @@ pub record Heard (t : Words) (s : State) (side : Party) (message : List ℕ) : T
   pub turn : awaited t s ≡ of-side side
   pub framed : Framed message
 
--- the counts are within the bytes and the output
+-- what is used and written is within the bytes and the output
 pub record LaneIn (bytes : List ℕ) (l : B.Lane) : Type 0 where
   pub used : l .used ≤ length bytes
   pub written : l .written ≤ length (l .output)
 
--- table and position are sound, and on either side the counts are within
+-- table and position are sound, and so it is on either side
 pub record Within (t : Words) (l : Both Left) (b : Batch) : Type 0 where
   pub sound : sound-at t (b .state .position) ≡ true
   pub inside : (side : Party) → LaneIn (at-side side l .bytes) (at-side side (b .lanes))

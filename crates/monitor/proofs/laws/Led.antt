@@ -153,7 +153,7 @@ module _ (t : Words) (l : Both Left) where
     unfolding is-last-forwarded is-forwarded
     turn-forwards = ap (λ (r : Option Told × Batch). is-last-forwarded (r .0)) e
 
-    pub turn-on : On t l d
+    turn-on : On t l d
     turn-on =
         let x = turn-lasts b o in
         subst (λ (r : Option Told × Batch). On t l (r .1)) e
