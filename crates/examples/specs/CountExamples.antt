@@ -73,7 +73,7 @@ pub record CountsTallied : Type 0 where
   pub picked : (picks P1 0 (conversation P1 six-sent) ≡ 0 ∷ []) × (picks P1 1 (conversation P1 six-sent) ≡ 1 ∷ [])
   pub forwarded-ones : (forwarded-at 0 (conversation P1 six-sent) ≡ 1) × (forwarded-at 1 (conversation P1 six-sent) ≡ 1) × (forwarded-at 2 (conversation P1 six-sent) ≡ 0)
   pub counted : counts-after P1 (fresh-counts 442) (conversation P1 six-sent) ≡ P-counts 442 1 1 1 1 0
-  pub times : (times 2 (0 ∷ 2 ∷ 2 ∷ 1 ∷ []) ≡ 2) × (times 2 [] ≡ 0)
+  pub times : (times 2 (0 ∷ 2 ∷ 2 ∷ 2 ∷ 1 ∷ []) ≡ 3) × (times 2 [] ≡ 0)
 
 -- ---- warnings
 

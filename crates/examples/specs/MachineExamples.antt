@@ -6,16 +6,18 @@ use mathlib.Core.List.{List, [], _∷_}
 use mathlib.Core.Option.{none, some}
 use Prim.Native.Nat.{ℕ}
 use lib.Dec.{ltb, eqb}
+use lib.ListN.{set}
 use Rattle.table.specs.Lists.{first-no}
 use Rattle.table.specs.Table as T
+use Rattle.table.specs.View.{view}
 use Rattle.table.specs.declared.Party.the-variants.{Device, Host}
 use Rattle.message.specs.declared.High.the-variants as H
 use Rattle.message.specs.Rules.{Rules, table-rules, under}
 use Rattle.machine.specs.declared.Fitting.the-variants as Fittings
-use Rattle.machine.specs.Machine.{Move, moves, running, device-blamed, host-blamed, jammed, run, bad, all-forwarded, fresh-machine}
+use Rattle.machine.specs.Machine.{Machine, Move, moves, running, device-blamed, host-blamed, jammed, run, bad, all-forwarded, fresh-machine}
 use Rattle.machine.specs.Fit.{right, pairs, shown-moves, of-speakers, but-last, last-count, field-named}
 use Rattle.machine.specs.Answer.{refused, fits, fails, answer-of, fit-questions}
-use Rattle.examples.specs.Twelve.{ask, ok, P, E}
+use Rattle.examples.specs.Twelve.{ask, ok, table, P, E}
 use Rattle.examples.specs.TableExamples.{P-under, P-seen, E-seen, P1, one-letter, branch-to, of-states, one-range}
 use Rattle.examples.specs.MessageExamples.{A-of}
 use Rattle.examples.specs.StepExamples.{quit}
@@ -107,9 +109,12 @@ A-or-B-of s = of-states (s ∷ T.ends ∷ []) (branch-to 0 (one-letter 65) [] 1 
 abbrev pub only-B : T.Sort → T.Table
 only-B s = of-states (s ∷ T.ends ∷ []) (branch-to 0 (one-letter 66) [] 1 ∷ [])
 
--- state 0 sends B, state 1 A
-abbrev pub B-then-A : T.Table
-B-then-A = of-states (T.sends ∷ T.sends ∷ T.ends ∷ []) (branch-to 0 (one-letter 66) [] 2 ∷ branch-to 1 (one-letter 65) [] 2 ∷ [])
+-- state 0 has B, state 1 A
+abbrev pub B-then-A : T.Sort → T.Sort → T.Table
+B-then-A r s = of-states (r ∷ s ∷ T.ends ∷ []) (branch-to 0 (one-letter 66) [] 2 ∷ branch-to 1 (one-letter 65) [] 2 ∷ [])
+
+abbrev pub A-then-B : T.Sort → T.Sort → T.Table
+A-then-B r s = of-states (r ∷ s ∷ T.ends ∷ []) (branch-to 0 (one-letter 65) [] 2 ∷ branch-to 1 (one-letter 66) [] 2 ∷ [])
 
 -- "A pair of states is right when both are ends; or both send, and each device branch has a protocol branch of the same label and kinds whose ranges contain its own; or both
 -- receive, and each protocol branch has a device branch of the same label and kinds whose ranges contain its own." The device is named first
@@ -126,12 +131,20 @@ pub record RightPairs : Type 0 where
   pub labels : (right (only-B T.sends) (A-or-B-of T.sends) 0 0 ≡ true) × (right (A-or-B-of T.sends) (only-B T.sends) 0 0 ≡ false)
       × (right (A-or-B-of T.receives) (only-B T.receives) 0 0 ≡ true)
       × (right (only-B T.receives) (A-or-B-of T.receives) 0 0 ≡ false)
-  pub ends : (right E-seen E-seen 0 0 ≡ true) × (right no-fields no-fields 0 1 ≡ false) × (right no-fields no-fields 1 0 ≡ false)
+  pub ends : (right E-seen E-seen 0 0 ≡ true) × (right P-seen E-seen 0 0 ≡ false) × (right no-fields no-fields 0 1 ≡ false) × (right no-fields no-fields 1 0 ≡ false)
       × (right (only-B T.sends) (only-B T.receives) 0 0 ≡ false)
       × (right (only-B T.receives) (only-B T.sends) 0 0 ≡ false)
   -- a branch of another state does not count
-  pub own-branches : (right no-fields B-then-A 0 0 ≡ false) × (right no-fields B-then-A 0 1 ≡ true) × (right B-then-A (only-B T.sends) 0 0 ≡ true)
-      × (right B-then-A (only-B T.sends) 1 0 ≡ false)
+  pub own-branches : (right no-fields (B-then-A T.sends T.sends) 0 0 ≡ false) × (right no-fields (B-then-A T.sends T.sends) 0 1 ≡ true)
+      × (right (B-then-A T.sends T.sends) (only-B T.sends) 0 0 ≡ true)
+      × (right (B-then-A T.sends T.sends) (only-B T.sends) 1 0 ≡ false)
+  -- nor is a state looked at by the other's number
+  pub own-numbers : (right (A-then-B T.sends T.receives) (B-then-A T.receives T.sends) 0 1 ≡ true)
+      × (right (A-then-B T.sends T.receives) (B-then-A T.receives T.sends) 1 0 ≡ true)
+      × (right (A-then-B T.sends T.receives) (B-then-A T.receives T.sends) 0 0 ≡ false)
+      × (right (A-then-B T.receives T.receives) (B-then-A T.receives T.receives) 0 1 ≡ true)
+      × (right (A-then-B T.receives T.receives) (B-then-A T.receives T.receives) 0 0 ≡ false)
+      × (right (A-then-B T.receives T.receives) (B-then-A T.receives T.receives) 1 1 ≡ false)
 
 -- ---- the check
 
@@ -145,10 +158,21 @@ by-quit = device-says quit ∷ []
 abbrev pub back-again : List Move
 back-again = device-says (ask 0) ∷ host-says ok ∷ []
 
+-- device and protocol of other numbers: the device's A, C and D are its branches 1, 3 and 4, of states 0, 2 and 4; the protocol's are 0, 2 and 3, of 0, 1 and 3
+abbrev pub with-Z : T.Table
+with-Z = view (table "+{!Z().end,!A().&{?B().end,?C().+{!D().end}}}")
+
+abbrev pub without-Z : T.Table
+without-Z = view (table "+{!A().&{?B().end,?C().+{!D().end}}}")
+
+abbrev pub ZZ : Machine ℕ ℕ
+ZZ = fresh-machine (table-rules with-Z) (table-rules without-Z)
+
 pub record FitChecked : Type 0 where
   -- "It asks 9 of the device, 9 of the protocol, then 17. Has the list at least device states times protocol states entries?"
   pub asked : (first-no (fit-questions [] P1 9) ≡ 9) × (first-no (fit-questions P1 [] 0) ≡ 9) × (first-no (fit-questions P1 E 2) ≡ 17)
       × (first-no (fit-questions P1 E 3) ≡ 0)
+      × (first-no (fit-questions P1 (set P1 2338 0) 0) ≡ 9)
       × (first-no (fit-questions P P 8) ≡ 17)
       × (first-no (fit-questions P P 9) ≡ 0)
   -- "P fits P, 3 pairs": each is right, each is reached, and these are 3
@@ -174,6 +198,10 @@ pub record FitChecked : Type 0 where
       × (of-speakers P-seen P-seen (fresh-machine PP PP) (0 ∷ 2 ∷ []) ≡ false)
       × (of-speakers P-seen P-seen (fresh-machine PP PP) (3 ∷ []) ≡ false)
       × (of-speakers P-seen P-seen (fresh-machine PP PP) (2 ∷ 0 ∷ []) ≡ false)
+  pub of-own-tables : (of-speakers with-Z without-Z ZZ (1 ∷ 2 ∷ 4 ∷ []) ≡ true) × (of-speakers with-Z without-Z ZZ (0 ∷ []) ≡ true)
+      × (of-speakers with-Z without-Z ZZ (2 ∷ []) ≡ false)
+      × (of-speakers with-Z without-Z ZZ (1 ∷ 3 ∷ []) ≡ false)
+      × (of-speakers with-Z without-Z ZZ (1 ∷ 2 ∷ 3 ∷ []) ≡ false)
   -- "all but the last move are forwarded"; the named field is one of the last move's
   pub but-the-last : (but-last (device-says (ask 0) ∷ host-says ok ∷ device-says quit ∷ []) ≡ device-says (ask 0) ∷ host-says ok ∷ []) × (but-last [] ≡ [])
   pub fields-of-last : (last-count (host-says ok ∷ device-says (ask 0) ∷ []) ≡ 1) × (last-count (device-says (ask 0) ∷ host-says ok ∷ []) ≡ 0) × (last-count [] ≡ 0)
