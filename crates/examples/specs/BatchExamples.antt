@@ -10,7 +10,7 @@ use Rattle.conversation.specs.declared.Standing.the-variants.{Running, DeviceBl
 use Rattle.conversation.specs.declared.Verdict.the-variants.{Refused}
 use Rattle.conversation.specs.declared.batch.Last.the-variants.{NoneDue, Answer}
 use Rattle.conversation.specs.Step.{refused, blamed, forwarded, fresh}
-use Rattle.conversation.specs.Batch.{Lane, last-of}
+use Rattle.conversation.specs.Batch.{Lane, last-of, batched}
 use Rattle.conversation.specs.Counts.{counted-batch}
 use Rattle.examples.specs.Twelve.{ask, ok, table}
 use Rattle.examples.specs.TableExamples.{P1, P2, one-letter}
@@ -115,3 +115,10 @@ pub record BatchesAsked : Type 0 where
         P-counts 442 0 0 0 0 0,
       )
   pub answers : (last-of NoneDue ≡ none) × (last-of (Answer (Refused 16)) ≡ some (refused 16))
+  pub numbers : batched
+      (record {
+        state = at-position 1 Running;
+        passed = record { device = record { used = 1; written = 2 }; host = record { used = 3; written = 4 }; last = NoneDue };
+      })
+      (5 ∷ []) (6 ∷ [])
+      ≡ record { state = at-position 1 Running; device = lane-of 1 2 (6 ∷ []); host = lane-of 3 4 (5 ∷ []); last = none }
