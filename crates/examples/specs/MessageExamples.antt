@@ -129,9 +129,10 @@ pub record MessagesMade : Type 0 where
   pub int-high : making three-kinds 0 (some 0) (replicate 25 7) ≡ record { numbers = (0, 25); buffer = A-made 0 3 1 0 (0x20 ∷ []) }
   pub text-high : making three-kinds 0 (some 1) (replicate 26 7) ≡ record { numbers = (0, 26); buffer = A-made 0xFF 0xFB 2 0 (0x20 ∷ 0x20 ∷ []) }
   pub flag-high : making three-kinds 0 (some 2) (replicate 26 7) ≡ record { numbers = (0, 25); buffer = A-made 0xFF 0xFB 1 1 (0x20 ∷ 7 ∷ []) }
-  -- the four bytes of the least int, of -1, of 0 and of the most; of 0x01020304
+  -- the four bytes of the least int, of -1, of 0, of 0x01000000 and of the most; of 0x01020304
   pub int-edges : (made (A-from 0) none ≡ A-of 0 (0x80 ∷ 0 ∷ 0 ∷ 0 ∷ []) []) × (made (A-from 2147483647) none ≡ A-of 0 (0xFF ∷ 0xFF ∷ 0xFF ∷ 0xFF ∷ []) [])
       × (made (A-from 2147483648) none ≡ A-of 0 (0 ∷ 0 ∷ 0 ∷ 0 ∷ []) [])
+      × (made (A-from 2164260864) none ≡ A-of 0 (1 ∷ 0 ∷ 0 ∷ 0 ∷ []) [])
       × (made (A-from 4294967295) none ≡ A-of 0 (0x7F ∷ 0xFF ∷ 0xFF ∷ 0xFF ∷ []) [])
   pub four-bytes : made (A-from 2164392708) none ≡ A-of 0 (1 ∷ 2 ∷ 3 ∷ 4 ∷ []) []
   pub no-room : making three-kinds 0 (some 1) (replicate 25 7) ≡ record { numbers = (16, 0); buffer = replicate 25 7 }
