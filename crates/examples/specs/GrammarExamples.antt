@@ -22,7 +22,7 @@ use Rattle.types.specs.Types.{protocol-rules, dual-type, dual-protocol, flip}
 use Rattle.spelling.specs.SpellingExamples.{plus, unopened, P-type}
 use Rattle.examples.specs.Twelve.{ask, ok}
 use Rattle.examples.specs.TableExamples.{P-under, P-seen, one-letter, branch-to}
-use Rattle.examples.specs.StepExamples.{quit, ask-flag, from}
+use Rattle.examples.specs.StepExamples.{quit, ask-flag, said-from}
 
 -- ---- trees
 
@@ -191,12 +191,12 @@ C-bare = 67 ∷ 0 ∷ 0 ∷ 0 ∷ 0 ∷ 0 ∷ 0 ∷ 0 ∷ 0 ∷ []
 
 -- source document 001's transitions: a choice goes on by a branch, a `rec` as its body with the name replaced by it
 pub record TypesAllow : Type 0 where
-  pub completes : (completed-list (protocol-rules (unopened P-type)) (from Device (ask 100) ∷ from Host ok ∷ from Device quit ∷ []) ≡ true)
-      × (completed-list (protocol-rules (unopened P-type)) (from Device (ask 100) ∷ from Host ok ∷ []) ≡ false)
-      × (allowed-list (protocol-rules (unopened P-type)) (from Device (ask 100) ∷ from Host ok ∷ from Device (ask 0) ∷ []) ≡ true)
-  pub forbids : (allowed-list (protocol-rules (unopened P-type)) (from Device (ask 101) ∷ []) ≡ false)
-      × (allowed-list (protocol-rules (unopened P-type)) (from Host quit ∷ []) ≡ false)
-      × (allowed-list (protocol-rules (unopened P-type)) (from Device quit ∷ from Device quit ∷ []) ≡ false)
+  pub completes : (completed-list (protocol-rules (unopened P-type)) (said-from Device (ask 100) ∷ said-from Host ok ∷ said-from Device quit ∷ []) ≡ true)
+      × (completed-list (protocol-rules (unopened P-type)) (said-from Device (ask 100) ∷ said-from Host ok ∷ []) ≡ false)
+      × (allowed-list (protocol-rules (unopened P-type)) (said-from Device (ask 100) ∷ said-from Host ok ∷ said-from Device (ask 0) ∷ []) ≡ true)
+  pub forbids : (allowed-list (protocol-rules (unopened P-type)) (said-from Device (ask 101) ∷ []) ≡ false)
+      × (allowed-list (protocol-rules (unopened P-type)) (said-from Host quit ∷ []) ≡ false)
+      × (allowed-list (protocol-rules (unopened P-type)) (said-from Device quit ∷ said-from Device quit ∷ []) ≡ false)
   -- the reasons
   pub judges : (protocol-rules (unopened P-type) .judge P-type (read ok) ≡ forbidden 1 none)
       × (protocol-rules (unopened P-type) .judge P-type (read ask-flag) ≡ forbidden 2 none)
@@ -206,19 +206,19 @@ pub record TypesAllow : Type 0 where
       × (protocol-rules (unopened P-type) .sort (rec-X (rec-Y (choice receiving (one-branch "B" X)))) ≡ T.receives)
   pub editions-of : (protocol-rules (unopened stop) .edition ≡ 1) × (protocol-rules (record { opening = some (plus 2); type = stop }) .edition ≡ 2)
   -- after A, the inner `rec`'s B again and again, and A no more
-  pub innermost-again : (allowed-list (protocol-rules (unopened inner-X)) (from Device A-bare ∷ from Host B-bare ∷ from Host B-bare ∷ []) ≡ true)
-      × (allowed-list (protocol-rules (unopened inner-X)) (from Device A-bare ∷ from Host B-bare ∷ from Device A-bare ∷ []) ≡ false)
+  pub innermost-again : (allowed-list (protocol-rules (unopened inner-X)) (said-from Device A-bare ∷ said-from Host B-bare ∷ said-from Host B-bare ∷ []) ≡ true)
+      × (allowed-list (protocol-rules (unopened inner-X)) (said-from Device A-bare ∷ said-from Host B-bare ∷ said-from Device A-bare ∷ []) ≡ false)
   -- a name of the outer `rec` goes back through the inner one
-  pub outer-again : (allowed-list (protocol-rules (unopened (rec-Y (sends-A (rec-X (choice receiving (or-branch "B" X (one-branch "C" Y)))))))) (from Device A-bare
-      ∷ from Host B-bare
-      ∷ from Host C-bare
-      ∷ from Device A-bare
+  pub outer-again : (allowed-list (protocol-rules (unopened (rec-Y (sends-A (rec-X (choice receiving (or-branch "B" X (one-branch "C" Y)))))))) (said-from Device A-bare
+      ∷ said-from Host B-bare
+      ∷ said-from Host C-bare
+      ∷ said-from Device A-bare
       ∷ []) ≡ true)
-      × (allowed-list (protocol-rules (unopened (rec-Y (sends-A (rec-X (choice receiving (or-branch "B" X (one-branch "C" Y)))))))) (from Device A-bare
-      ∷ from Host C-bare
-      ∷ from Host B-bare
+      × (allowed-list (protocol-rules (unopened (rec-Y (sends-A (rec-X (choice receiving (or-branch "B" X (one-branch "C" Y)))))))) (said-from Device A-bare
+      ∷ said-from Host C-bare
+      ∷ said-from Host B-bare
       ∷ []) ≡ false)
   -- "The dual exchanges sending and receiving; the dual of the dual is the table itself"
   pub duals : (table-of (dual-protocol (record { opening = some (plus 2); type = P-type })) ≡ T.dual (P-under 2)) × (dual-type (dual-type P-type) ≡ P-type)
       × (dual-type (choice sending (or-branch "A" X (one-branch "B" stop))) ≡ choice receiving (or-branch "A" X (one-branch "B" stop)))
-  pub other-side : (flip (from Device ok) ≡ from Host ok) × (flip (from Host ok) ≡ from Device ok)
+  pub other-side : (flip (said-from Device ok) ≡ said-from Host ok) × (flip (said-from Host ok) ≡ said-from Device ok)

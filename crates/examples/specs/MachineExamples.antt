@@ -99,8 +99,8 @@ pub record MovesPlayed : Type 0 where
 abbrev pub one-kind : ℕ → T.Table
 one-kind k = one-range T.sends k 2147483648 2147483648
 
-abbrev pub no-fields : T.Table
-no-fields = of-states (T.sends ∷ T.ends ∷ []) (branch-to 0 (one-letter 65) [] 1 ∷ [])
+abbrev pub A-plain : T.Table
+A-plain = of-states (T.sends ∷ T.ends ∷ []) (branch-to 0 (one-letter 65) [] 1 ∷ [])
 
 -- two branches, A and B, of a sort
 abbrev pub A-or-B-of : T.Sort → T.Table
@@ -126,16 +126,16 @@ pub record RightPairs : Type 0 where
       × (right (one-range T.receives 0 4 10) (one-range T.receives 0 5 9) 0 0 ≡ true)
       × (right (one-range T.receives 0 6 9) (one-range T.receives 0 5 9) 0 0 ≡ false)
       × (right (one-range T.receives 0 5 8) (one-range T.receives 0 5 9) 0 0 ≡ false)
-  pub kinds : (right (one-kind 1) (one-kind 1) 0 0 ≡ true) × (right (one-kind 1) (one-kind 2) 0 0 ≡ false) × (right no-fields (one-kind 1) 0 0 ≡ false)
-      × (right (one-kind 1) no-fields 0 0 ≡ false)
+  pub kinds : (right (one-kind 1) (one-kind 1) 0 0 ≡ true) × (right (one-kind 1) (one-kind 2) 0 0 ≡ false) × (right A-plain (one-kind 1) 0 0 ≡ false)
+      × (right (one-kind 1) A-plain 0 0 ≡ false)
   pub labels : (right (only-B T.sends) (A-or-B-of T.sends) 0 0 ≡ true) × (right (A-or-B-of T.sends) (only-B T.sends) 0 0 ≡ false)
       × (right (A-or-B-of T.receives) (only-B T.receives) 0 0 ≡ true)
       × (right (only-B T.receives) (A-or-B-of T.receives) 0 0 ≡ false)
-  pub ends : (right E-seen E-seen 0 0 ≡ true) × (right P-seen E-seen 0 0 ≡ false) × (right no-fields no-fields 0 1 ≡ false) × (right no-fields no-fields 1 0 ≡ false)
+  pub ends : (right E-seen E-seen 0 0 ≡ true) × (right P-seen E-seen 0 0 ≡ false) × (right A-plain A-plain 0 1 ≡ false) × (right A-plain A-plain 1 0 ≡ false)
       × (right (only-B T.sends) (only-B T.receives) 0 0 ≡ false)
       × (right (only-B T.receives) (only-B T.sends) 0 0 ≡ false)
   -- a branch of another state does not count
-  pub own-branches : (right no-fields (B-then-A T.sends T.sends) 0 0 ≡ false) × (right no-fields (B-then-A T.sends T.sends) 0 1 ≡ true)
+  pub own-branches : (right A-plain (B-then-A T.sends T.sends) 0 0 ≡ false) × (right A-plain (B-then-A T.sends T.sends) 0 1 ≡ true)
       × (right (B-then-A T.sends T.sends) (only-B T.sends) 0 0 ≡ true)
       × (right (B-then-A T.sends T.sends) (only-B T.sends) 1 0 ≡ false)
   -- nor is a state looked at by the other's number

@@ -134,21 +134,21 @@ pub record DueParts : Type 0 where
 
 -- ---- lists of messages, and whole conversations
 
-abbrev pub from : Party → List ℕ → Said
-from side bytes = record { side = side; message = read bytes }
+abbrev pub said-from : Party → List ℕ → Said
+said-from side bytes = record { side = side; message = read bytes }
 
 -- request 12: "A list of messages completes a type when each is allowed in turn and an end is then reached"
 pub record ListsLed : Type 0 where
-  pub complete : (allowed-list (table-rules P-seen) (from Device (ask 100) ∷ from Host ok ∷ from Device quit ∷ []) ≡ true)
-      × (completed-list (table-rules P-seen) (from Device (ask 100) ∷ from Host ok ∷ from Device quit ∷ []) ≡ true)
-  pub not-complete : (allowed-list (table-rules P-seen) (from Device (ask 100) ∷ from Host ok ∷ []) ≡ true)
-      × (completed-list (table-rules P-seen) (from Device (ask 100) ∷ from Host ok ∷ []) ≡ false)
+  pub complete : (allowed-list (table-rules P-seen) (said-from Device (ask 100) ∷ said-from Host ok ∷ said-from Device quit ∷ []) ≡ true)
+      × (completed-list (table-rules P-seen) (said-from Device (ask 100) ∷ said-from Host ok ∷ said-from Device quit ∷ []) ≡ true)
+  pub not-complete : (allowed-list (table-rules P-seen) (said-from Device (ask 100) ∷ said-from Host ok ∷ []) ≡ true)
+      × (completed-list (table-rules P-seen) (said-from Device (ask 100) ∷ said-from Host ok ∷ []) ≡ false)
       × (allowed-list (table-rules P-seen) [] ≡ true)
       × (completed-list (table-rules P-seen) [] ≡ false)
   -- forbidden, out of turn, at an end
-  pub not-allowed : (allowed-list (table-rules P-seen) (from Device (ask 101) ∷ []) ≡ false) × (completed-list (table-rules P-seen) (from Device (ask 101) ∷ []) ≡ false)
-      × (allowed-list (table-rules P-seen) (from Host quit ∷ []) ≡ false)
-      × (allowed-list (table-rules P-seen) (from Device quit ∷ from Device quit ∷ []) ≡ false)
+  pub not-allowed : (allowed-list (table-rules P-seen) (said-from Device (ask 101) ∷ []) ≡ false) × (completed-list (table-rules P-seen) (said-from Device (ask 101) ∷ []) ≡ false)
+      × (allowed-list (table-rules P-seen) (said-from Host quit ∷ []) ≡ false)
+      × (allowed-list (table-rules P-seen) (said-from Device quit ∷ said-from Device quit ∷ []) ≡ false)
   -- a side is judged on its turn; request 7: under 2 on the other's, too, but not at an end
   pub listened : (listens (table-rules P-seen) 0 Device ≡ true) × (listens (table-rules P-seen) 0 Host ≡ false) × (listens (table-rules (P-under 2)) 0 Host ≡ true)
       × (listens (table-rules (P-under 2)) 2 Host ≡ false)
@@ -169,7 +169,7 @@ pub record ConversationsHeld : Type 0 where
   pub met : map (λ (e : Event). e .met) (conversation P1 six-sent)
       ≡ at-position 0 Running ∷ at-position 1 Running ∷ at-position 1 Running ∷ at-position 1 Running ∷ at-position 0 Running ∷ at-position 0 DeviceBlamed ∷ []
   pub kept : map (λ (e : Event). e .sent) (conversation P1 six-sent) ≡ six-sent
-  pub passed : forwarded-ones (conversation P1 six-sent) ≡ from Device (ask 100) ∷ from Host ok ∷ []
+  pub passed : forwarded-ones (conversation P1 six-sent) ≡ said-from Device (ask 100) ∷ said-from Host ok ∷ []
   pub blamed-one : (blamed-first (conversation P1 six-sent) ≡ some Device) × (blamed-first (conversation P1 (sent-by Device quit 9 ∷ [])) ≡ none)
       × (blamed-first (conversation P1 (sent-by Device (ask 100) 14 ∷ sent-by Host quit 9 ∷ [])) ≡ some Host)
   pub stands : (standing-by none ≡ Running) × (standing-by (some Host) ≡ HostBlamed)
