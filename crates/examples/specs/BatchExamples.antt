@@ -26,8 +26,9 @@ lane-with u w out = record { used = u; written = w; output = out }
 abbrev pub A-alone : List ℕ
 A-alone = one-letter 65 ++ (0 ∷ [])
 
--- "takes due messages in turn until none is due, a step refuses or a blame falls"; "A refused step changes nothing and undoes none before it. Bytes used on a side are those
--- of its forwarded and blamed messages, bytes written on an output those forwarded to it." The device's outputs are of 8, the host's of 9
+-- "takes due messages in turn until none is due, a step refuses or a blame falls"; "A refused step changes nothing and undoes none before it. Bytes
+-- used on a side are those of its forwarded and blamed messages, bytes written on an output those forwarded to it." The device's outputs are of 8,
+-- the host's of 9
 pub record BatchesTaken : Type 0 where
   -- Ask 100, Ok, and an Ask 101 that is blamed: its bytes are used and not written, and what waits behind it is left
   pub blamed-device : counted-batch P1 fresh (P-counts 442 0 0 0 0 0) (ask 100 ++ (ask 101 ++ (7 ∷ []))) (ok ++ ok) (replicate 10 8) (replicate 30 9)
