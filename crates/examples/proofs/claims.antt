@@ -8,6 +8,7 @@ pub mod MachineExamples
 pub mod MessageExamples
 pub mod ReportExamples
 pub mod Requests
+pub mod SetExamples
 pub mod StepExamples
 pub mod TableExamples
 pub mod Twelve

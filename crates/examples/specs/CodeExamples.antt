@@ -23,7 +23,8 @@ use Rattle.examples.specs.StepExamples.{at-position, quit}
 pub record CodesTold : Type 0 where
   -- sides: 0 device, 1 host; any other is none
   pub sides : (C.code-side 0 ≡ some Device) × (C.code-side 1 ≡ some Host) × (C.code-side 2 ≡ none) × (C.code-side 256 ≡ none)
-  pub turns : (C.turn-codes (D.of-side Host) ≡ record { question = 0; side = 1 }) × (C.turn-codes (D.of-side Device) ≡ record { question = 0; side = 0 })
+  pub turns : (C.turn-codes (D.of-side Host) ≡ record { question = 0; side = 1 })
+      × (C.turn-codes (D.of-side Device) ≡ record { question = 0; side = 0 })
       × (C.turn-codes (D.refused 11) ≡ record { question = 11; side = 0 })
   -- standings: 0 running, 1 device blamed, 2 host blamed; any other is not running
   pub states : (C.state-bytes (at-position 5 Running) ≡ 5 ∷ 0 ∷ []) × (C.state-bytes (at-position 5 DeviceBlamed) ≡ 5 ∷ 1 ∷ [])
@@ -47,17 +48,26 @@ pub record CodesTold : Type 0 where
       × (C.warning-codes (W.tells false (some Host) none) ≡ record { question = 0; warns = 0; sender = 1; estimate = 65535 })
       × (C.warning-codes (W.tells false none none) ≡ record { question = 0; warns = 0; sender = 0; estimate = 65535 })
   -- a field that is none is 255
-  pub fields : (C.named-by 255 ≡ none) × (C.named-by 254 ≡ some 254) × (C.named-by 256 ≡ some 256) × (C.high-code none ≡ 255) × (C.high-code (some 3) ≡ 3)
-  pub heads : (C.head-codes (record { question = 14; length = 7 }) ≡ record { question = 14; length = 7 }) × (C.made-codes (16, 7) ≡ record { question = 16; length = 7 })
+  pub fields : (C.named-by 255 ≡ none)
+      × (C.named-by 254 ≡ some 254)
+      × (C.named-by 256 ≡ some 256)
+      × (C.high-code none ≡ 255)
+      × (C.high-code (some 3) ≡ 3)
+  pub heads : (C.head-codes (record { question = 14; length = 7 }) ≡ record { question = 14; length = 7 })
+      × (C.made-codes (16, 7) ≡ record { question = 16; length = 7 })
   -- outcomes: 0 it fits, 1 it fails, 2 refused
   pub fit-checks : (C.fit-codes (F.fits 3) ≡ record { outcome = 0; question = 0; count = 3; high = 255 })
       × (C.fit-codes (F.fails 2 (some 1)) ≡ record { outcome = 1; question = 0; count = 2; high = 1 })
       × (C.fit-codes (F.fails 2 none) ≡ record { outcome = 1; question = 0; count = 2; high = 255 })
       × (C.fit-codes (F.refused 17) ≡ record { outcome = 2; question = 17; count = 0; high = 255 })
-  pub dues : (due-codes (D.of-side Device) (ask 7) ok ≡ record { side = 0; length = 14 }) × (due-codes (D.of-side Host) (ask 7) ok ≡ record { side = 1; length = 9 })
+  pub dues : (due-codes (D.of-side Device) (ask 7) ok ≡ record { side = 0; length = 14 })
+      × (due-codes (D.of-side Host) (ask 7) ok ≡ record { side = 1; length = 9 })
       × (due-codes (D.refused 10) (ask 7) ok ≡ record { side = 0; length = 0 })
   -- of making: the question, or the length; the field that is named
-  pub made : (made-numbers (M.Refused 18) ≡ (18, 0)) × (made-numbers (M.Length 14) ≡ (0, 14)) × (high-of H.Nothing ≡ none) × (high-of (H.Field 2) ≡ some 2)
+  pub made : (made-numbers (M.Refused 18) ≡ (18, 0))
+      × (made-numbers (M.Length 14) ≡ (0, 14))
+      × (high-of H.Nothing ≡ none)
+      × (high-of (H.Field 2) ≡ some 2)
 
 -- over the state's two bytes: what a step answers, the bytes and counts after it, and the output
 pub record StepsInCodes : Type 0 where

@@ -37,10 +37,11 @@ pub record ConversationsStarted : Type 0 where
   -- "The state is a position (0 when fresh) and a standing"
   pub fresh-one : fresh ≡ at-position 0 Running
 
--- "a count n for each choice and k for each branch, raised on forwarding, until n is 10,000"; "Question 9 now also asks .. that in a conversation's state each choice's k
--- add up to its n, at most 10,000, and that z is 1 to 1000"
+-- "a count n for each choice and k for each branch, raised on forwarding, until n is 10,000"; "Question 9 now also asks .. that in a conversation's
+-- state each choice's k add up to its n, at most 10,000, and that z is 1 to 1000"
 pub record CountsKept : Type 0 where
-  pub first-choice : counted-step P1 fresh (P-counts 442 5 4 3 4 2) Device quit (replicate 9 7) ≡ (gives forwarded 2 Running quit, P-counts 442 6 4 3 4 3)
+  pub first-choice : counted-step P1 fresh (P-counts 442 5 4 3 4 2) Device quit (replicate 9 7)
+      ≡ (gives forwarded 2 Running quit, P-counts 442 6 4 3 4 3)
   pub second-choice : counted-step P1 (at-position 1 Running) (P-counts 442 5 4 3 4 2) Host ok (replicate 9 7)
       ≡ (gives forwarded 0 Running ok, P-counts 442 5 5 3 5 2)
   pub last-raised : counted-step P1 fresh (P-counts 442 9999 0 9000 0 999) Device quit (replicate 9 7)
@@ -50,7 +51,8 @@ pub record CountsKept : Type 0 where
   -- a blame and a refusal raise nothing
   pub not-blamed : counted-step P1 fresh (P-counts 442 0 0 0 0 0) Device ok (replicate 9 7)
       ≡ (gives (blamed Device 1 none) 0 DeviceBlamed (replicate 9 7), P-counts 442 0 0 0 0 0)
-  pub not-refused : counted-step P1 fresh (P-counts 442 0 0 0 0 0) Host ok (replicate 9 7) ≡ (gives (refused 12) 0 Running (replicate 9 7), P-counts 442 0 0 0 0 0)
+  pub not-refused : counted-step P1 fresh (P-counts 442 0 0 0 0 0) Host ok (replicate 9 7)
+      ≡ (gives (refused 12) 0 Running (replicate 9 7), P-counts 442 0 0 0 0 0)
   -- 9, ahead of 10
   pub no-sum : counted-step P1 (at-position 0 HostBlamed) (P-counts 442 1 0 0 0 0) Device quit (replicate 9 7)
       ≡ (gives (refused 9) 0 HostBlamed (replicate 9 7), P-counts 442 1 0 0 0 0)
@@ -62,20 +64,23 @@ pub record CountsKept : Type 0 where
       × (counts-sound P1 (P-counts 1001 0 0 0 0 0) ≡ false)
   -- an end is no choice: its number is not looked at
   pub of-the-end : counts-sound P1 (set (P-counts 442 0 0 0 0 0) 3 5) ≡ true
-  pub turns : (counted-turn P1 fresh (P-counts 1 0 0 0 0 0) ≡ of-side Device) × (counted-turn P1 (at-position 1 Running) (P-counts 1 0 0 0 0 0) ≡ of-side Host)
+  pub turns : (counted-turn P1 fresh (P-counts 1 0 0 0 0 0) ≡ of-side Device)
+      × (counted-turn P1 (at-position 1 Running) (P-counts 1 0 0 0 0 0) ≡ of-side Host)
       × (counted-turn P1 (at-position 2 HostBlamed) (P-counts 0 0 0 0 0 0) ≡ D.refused 9)
 
 -- over a conversation: forwarded are Ask, of choice 0, and Ok, of choice 1
 pub record CountsTallied : Type 0 where
   pub picked : (picks P1 0 (conversation P1 six-sent) ≡ 0 ∷ []) × (picks P1 1 (conversation P1 six-sent) ≡ 1 ∷ [])
-  pub forwarded-ones : (forwarded-at 0 (conversation P1 six-sent) ≡ 1) × (forwarded-at 1 (conversation P1 six-sent) ≡ 1) × (forwarded-at 2 (conversation P1 six-sent) ≡ 0)
+  pub forwarded-ones : (forwarded-at 0 (conversation P1 six-sent) ≡ 1)
+      × (forwarded-at 1 (conversation P1 six-sent) ≡ 1)
+      × (forwarded-at 2 (conversation P1 six-sent) ≡ 0)
   pub counted : counts-after P1 (fresh-counts 442) (conversation P1 six-sent) ≡ P-counts 442 1 1 1 1 0
-  pub times : (times 2 (0 ∷ 2 ∷ 2 ∷ 1 ∷ []) ≡ 2) × (times 2 [] ≡ 0)
+  pub times : (times 2 (0 ∷ 2 ∷ 2 ∷ 2 ∷ 1 ∷ []) ≡ 3) × (times 2 [] ≡ 0)
 
 -- ---- warnings
 
--- "a branch warns exactly while 10,000 × (1,000k - wn)² is greater than z² × w × (1,000 - w) × n. The edge is inside." "The estimate 1,000k / n is shown to the nearest
--- whole, halves up; while n is 0 there is none."
+-- "a branch warns exactly while 10,000 × (1,000k - wn)² is greater than z² × w × (1,000 - w) × n. The edge is inside." "The estimate 1,000k / n is
+-- shown to the nearest whole, halves up; while n is 0 there is none."
 pub record BranchesWarn : Type 0 where
   -- far too seldom, and not so far: 10,000 x 94,000^2 and 10,000 x 4,000^2 against 442^2 x 990 x 10 x 600
   pub seldom : warns 442 990 600 500 ≡ true
@@ -83,12 +88,16 @@ pub record BranchesWarn : Type 0 where
   -- 10,000 x 9,800^2 = 960,400,000,000 against 943^2 x 100 x 900 x 12 = 960,388,920,000, too often and too seldom; 944^2 x .. = 962,426,880,000
   pub close : (warns 943 100 12 11 ≡ true) × (warns 943 900 12 1 ≡ true) × (warns 944 100 12 11 ≡ false) × (warns 944 900 12 1 ≡ false)
   pub none-forwarded : warns 1 500 0 0 ≡ false
-  pub estimates : (estimate 6 2 ≡ some 333) × (estimate 3 2 ≡ some 667) × (estimate 16 1 ≡ some 63) × (estimate 16 3 ≡ some 188) × (estimate 10000 10000 ≡ some 1000)
+  pub estimates : (estimate 6 2 ≡ some 333)
+      × (estimate 3 2 ≡ some 667)
+      × (estimate 16 1 ≡ some 63)
+      × (estimate 16 3 ≡ some 188)
+      × (estimate 10000 10000 ≡ some 1000)
       × (estimate 10000 0 ≡ some 0)
       × (estimate 0 0 ≡ none)
 
--- "A call on a table, a state and a branch asks 9, then 18 for the branch, and tells whether it warns, the choice's sender and the estimate; a branch without a share never
--- warns."
+-- "A call on a table, a state and a branch asks 9, then 18 for the branch, and tells whether it warns, the choice's sender and the estimate; a branch
+-- without a share never warns."
 pub record WarningsTold : Type 0 where
   -- "With n = 6, k = 2, w = 10, z = 442 it warns"
   pub warned : warning (table shared-text) fresh (two-counts 442 6 2 4) 0 ≡ W.tells true (some Device) (some 333)

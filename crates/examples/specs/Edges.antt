@@ -68,16 +68,17 @@ Comes-to bytes q at = (reads bytes .question ≡ q) × (reads bytes .at ≡ at)
 abbrev pub times-over : ℕ → String → String → List ℕ
 times-over n s rest = F.joined (replicate n (ascii s)) ++ ascii rest
 
--- what is asked at a sign or word, where a token of that kind or a type is expected, one choice is open, and the table so far has n states and m branches
+-- what is asked at a sign or word, where a token of that kind or a type is expected, one choice is open, and the table so far has n states and m
+-- branches
 abbrev pub asked-at : String → R.Item → ℕ → ℕ → ℕ
 asked-at w i n m =
     let b : T.Branch = record { owner = 0; label = []; fields = []; target = 0 } in
     let t : T.Table = record { sorts = replicate n T.ends; branches = replicate m b; shares = []; edition = 1 } in
     first-no (R.questions (ascii w) (R.state (i ∷ []) (R.a-choice 0 ∷ []) b t) (token (K.of w) 0 1))
 
--- "1. Is the text at most 8,192 bytes long? (place 0)"; "8. Is the token within 32 states, 128 branches, 4 fields in a branch, and 16 choices and `rec`s
--- open around one another? (States are counted at `+`, `&` or `end`, branches at `!` or `?`, fields at the kind's word, what is open at `+`, `&` or
--- `rec`.)"
+-- "1. Is the text at most 8,192 bytes long? (place 0)"; "8. Is the token within 32 states, 128 branches, 4 fields in a branch, and 16 choices and
+-- `rec`s open around one another? (States are counted at `+`, `&` or `end`, branches at `!` or `?`, fields at the kind's word, what is open at `+`,
+-- `&` or `rec`.)"
 pub record LimitsKept : Type 0 where
   pub longest : Comes-to (ascii "end" ++ replicate 8189 0x20) 0 0
   -- ahead of what stands in it
@@ -144,8 +145,8 @@ pub record NamesRead : Type 0 where
   pub cut-off : RefusedAt "+{!A().end" 3 10
   pub cut-off-blank : RefusedAt "+{!A() " 3 7
 
--- request 4: "19 at a share outside 1 to 1000, after 6"; "20 at a closing brace whose choice mixes branches with and without shares, or whose shares don't
--- add to 1000, after 8"
+-- request 4: "19 at a share outside 1 to 1000, after 6"; "20 at a closing brace whose choice mixes branches with and without shares, or whose shares
+-- don't add to 1000, after 8"
 pub record ShareEdges : Type 0 where
   pub least : Reads "+{!A()@1.end,!B()@999.end}"
   pub whole : Reads "+{!A()@1000.end}"
@@ -163,9 +164,9 @@ pub record ShareEdges : Type 0 where
 
 -- ---- every byte
 
--- what a byte gets that is all of a text. "A byte that begins nothing named here is a malformed token": 2, and so are a small letter, which is none of
--- the words, and a minus without its number. A capital is a name that is not bound: 4. A blank leaves the text to run out; a digit, a dot or a sign
--- is no type, or the text then runs out: 3
+-- what a byte gets that is all of a text. "A byte that begins nothing named here is a malformed token": 2, and so are a small letter, which is none
+-- of the words, and a minus without its number. A capital is a name that is not bound: 4. A blank leaves the text to run out; a digit, a dot or a
+-- sign is no type, or the text then runs out: 3
 abbrev pub by-itself : ℕ → ℕ
 by-itself b =
     cond (leb 65 b && leb b 90) 4
@@ -190,7 +191,10 @@ pub record EveryByte : Type 0 where
   pub alone : For-every-byte (λ b. reads (b ∷ []) .question) by-itself
   pub after-name : For-every-byte (with-byte "rec A") behind-a-name
   -- "A token that begins with a digit takes digits only": the digits, and what stands next to them
-  pub after-number : (with-byte "edition 1" 48 ≡ 2308) × (with-byte "edition 1" 57 ≡ 2308) × (with-byte "edition 1" 47 ≡ 209) × (with-byte "edition 1" 58 ≡ 209)
+  pub after-number : (with-byte "edition 1" 48 ≡ 2308)
+      × (with-byte "edition 1" 57 ≡ 2308)
+      × (with-byte "edition 1" 47 ≡ 209)
+      × (with-byte "edition 1" 58 ≡ 209)
       × (with-byte "edition 1" 65 ≡ 409)
   -- "words take the longest run": `end0` is one; what stands next to letters and digits is none of it
   pub after-word : (with-byte "end" 48 ≡ 200) × (with-byte "end" 65 ≡ 200) × (with-byte "end" 122 ≡ 200) × (with-byte "end" 123 ≡ 303)

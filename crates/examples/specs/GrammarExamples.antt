@@ -1,6 +1,5 @@
--- Protocols as trees: the table that one means, what is asked of it (document 01's questions 4 to 8, document 02's 19, 20 and 23), and what its type allows by
--- substitution.
--- Assumes nothing.
+-- Protocols as trees: the table that one means, what is asked of it (document 01's questions 4 to 8, document 02's 19, 20 and 23), and what its type
+-- allows by substitution. Assumes nothing.
 use mathlib.Core.Path.{_≡_}
 use mathlib.Core.Bool.{true, false}
 use mathlib.Core.List.{List, [], _∷_, map}
@@ -90,8 +89,8 @@ pub record TreesPrinted : Type 0 where
 
 -- ---- the table
 
--- "States are numbered from 0 in the order in which `+`, `&` and `end` stand in the text, branches from 0 over the whole text in the order of `!` and `?`. A name means the
--- first state of the body of the innermost `rec` of that name around it."
+-- "States are numbered from 0 in the order in which `+`, `&` and `end` stand in the text, branches from 0 over the whole text in the order of `!` and
+-- `?`. A name means the first state of the body of the innermost `rec` of that name around it."
 pub record TreesMean : Type 0 where
   pub of-P : table-of (unopened P-type) ≡ P-seen
   pub under-two : table-of (record { opening = some (plus 2); type = P-type }) ≡ P-under 2
@@ -128,12 +127,19 @@ pub record TreesMean : Type 0 where
 
 pub record TreesAsked : Type 0 where
   -- 4
-  pub bound : (names-bound P-type [] ≡ true) × (names-bound X [] ≡ false) × (names-bound (sends-A X) [] ≡ false) × (names-bound (rec-X (sends-A X)) [] ≡ true)
+  pub bound : (names-bound P-type [] ≡ true)
+      × (names-bound X [] ≡ false)
+      × (names-bound (sends-A X) [] ≡ false)
+      × (names-bound (rec-X (sends-A X)) [] ≡ true)
       × (names-bound (rec-X (sends-A Y)) [] ≡ false)
       × (names-bound (choice sending (or-branch "A" (rec-X (choice receiving (one-branch "B" X))) (one-branch "C" X))) [] ≡ false)
       × (names-bound (choice sending (or-branch "A" X (one-branch "C" stop))) [] ≡ false)
   -- 5, with request 1
-  pub guarded : (recs-guarded P-type ≡ true) × (recs-guarded (rec-X stop) ≡ true) × (recs-guarded (rec-X X) ≡ false) × (recs-guarded (rec-X (rec-Y X)) ≡ false) × (recs-guarded (rec-Y (sends-A (rec-X Y))) ≡ true)
+  pub guarded : (recs-guarded P-type ≡ true)
+      × (recs-guarded (rec-X stop) ≡ true)
+      × (recs-guarded (rec-X X) ≡ false)
+      × (recs-guarded (rec-X (rec-Y X)) ≡ false)
+      × (recs-guarded (rec-Y (sends-A (rec-X Y))) ≡ true)
       × (recs-guarded (rec-X (sends-A (rec-X X))) ≡ false)
       × (recs-guarded (sends-A (rec-X X)) ≡ false)
       × (recs-guarded (rec-X (rec-X (sends-A X))) ≡ true)
@@ -142,38 +148,53 @@ pub record TreesAsked : Type 0 where
   -- the innermost `rec` of the name alone is its binder: `rec X.rec X.X` is refused for the inner one
   pub own-binder : (recs-guarded (rec-X (rec-X X)) ≡ false) × (recs-guarded (rec-X (sends-A (rec-Y X))) ≡ true)
   -- 6, and 8 of fields
-  pub ranged : (branches-legal P-type ≡ true) × (branches-legal (A-fields []) ≡ true) × (branches-legal (A-fields (ranging int (plus 5) (plus 5) ∷ [])) ≡ true)
+  pub ranged : (branches-legal P-type ≡ true)
+      × (branches-legal (A-fields []) ≡ true)
+      × (branches-legal (A-fields (ranging int (plus 5) (plus 5) ∷ [])) ≡ true)
       × (branches-legal (A-fields (ranging int (plus 5) (plus 4) ∷ [])) ≡ false)
       × (branches-legal (A-fields (ranging flag (plus 0) (plus 2) ∷ [])) ≡ false)
       × (branches-legal (A-fields (ranging text (below-zero 1) (plus 2) ∷ [])) ≡ false)
       × (branches-legal (A-fields (ranging int (below-zero 2147483648) (plus 2147483647) ∷ [])) ≡ true)
       × (branches-legal (A-fields (ranging int (below-zero 2147483649) (plus 0) ∷ [])) ≡ false)
-  pub four : (branches-legal (A-fields (replicate 4 (ranging int (plus 5) (plus 5)))) ≡ true) × (branches-legal (A-fields (replicate 5 (ranging int (plus 5) (plus 5)))) ≡ false)
+  pub four : (branches-legal (A-fields (replicate 4 (ranging int (plus 5) (plus 5)))) ≡ true)
+      × (branches-legal (A-fields (replicate 5 (ranging int (plus 5) (plus 5)))) ≡ false)
   pub other-branches : (branches-legal (A-fields-second (ranging int (plus 5) (plus 4) ∷ [])) ≡ false)
       × (branches-legal (rec-X (sends-A (A-fields (ranging int (plus 5) (plus 4) ∷ [])))) ≡ false)
       × (branches-legal (choice sending (also (word-called "A") (ranging int (plus 5) (plus 4) ∷ []) none stop (one-branch "B" stop))) ≡ false)
   -- 7
-  pub labels : (labels-new P-type ≡ true) × (labels-new (choice sending (or-branch "A" stop (one-branch "B" stop))) ≡ true) × (labels-new (choice sending (or-branch "A" stop (one-branch "A" stop))) ≡ false)
+  pub labels : (labels-new P-type ≡ true)
+      × (labels-new (choice sending (or-branch "A" stop (one-branch "B" stop))) ≡ true)
+      × (labels-new (choice sending (or-branch "A" stop (one-branch "A" stop))) ≡ false)
       × (labels-new (choice sending (or-branch "A" stop (or-branch "B" stop (one-branch "A" stop)))) ≡ false)
       × (labels-new (choice sending (or-branch "A" stop (or-branch "A" stop (one-branch "B" stop)))) ≡ false)
       × (labels-new (sends-A (sends-A stop)) ≡ true)
       × (labels-new (sends-A (choice receiving (or-branch "B" stop (one-branch "B" stop)))) ≡ false)
   -- 8, of what is open
-  pub depths : (depth stop ≡ 0) × (depth X ≡ 0) × (depth P-type ≡ 3) × (depth (choice sending (or-branch "A" stop (one-branch "B" (rec-X (sends-A X))))) ≡ 3)
+  pub depths : (depth stop ≡ 0)
+      × (depth X ≡ 0)
+      × (depth P-type ≡ 3)
+      × (depth (choice sending (or-branch "A" stop (one-branch "B" (rec-X (sends-A X))))) ≡ 3)
   -- 19
-  pub shares : (shares-legal P-type ≡ true) × (shares-legal (A-B-shares none stop none) ≡ true) × (shares-legal (A-B-shares (some (plus 1)) stop (some (plus 1000))) ≡ true)
+  pub shares : (shares-legal P-type ≡ true)
+      × (shares-legal (A-B-shares none stop none) ≡ true)
+      × (shares-legal (A-B-shares (some (plus 1)) stop (some (plus 1000))) ≡ true)
       × (shares-legal (A-B-shares (some (plus 0)) stop none) ≡ false)
       × (shares-legal (A-B-shares none stop (some (plus 1001))) ≡ false)
       × (shares-legal (A-B-shares none stop (some (below-zero 1))) ≡ false)
       × (shares-legal (sends-A (A-B-shares (some (plus 0)) stop none)) ≡ false)
   -- 20
-  pub sums : (sums-right P-type ≡ true) × (sums-right (A-B-shares none stop none) ≡ true) × (sums-right (A-B-shares (some (plus 400)) stop (some (plus 600))) ≡ true)
+  pub sums : (sums-right P-type ≡ true)
+      × (sums-right (A-B-shares none stop none) ≡ true)
+      × (sums-right (A-B-shares (some (plus 400)) stop (some (plus 600))) ≡ true)
       × (sums-right (A-B-shares (some (plus 400)) stop (some (plus 599))) ≡ false)
       × (sums-right (A-B-shares (some (plus 1000)) stop none) ≡ false)
       × (sums-right (A-B-shares none (A-B-shares (some (plus 1000)) stop none) none) ≡ false)
       × (sums-right (rec-X (sends-A (A-B-shares none stop (some (plus 1000))))) ≡ false)
   -- 23
-  pub editions : (opening-legal none ≡ true) × (opening-legal (some (plus 1)) ≡ true) × (opening-legal (some (plus 2)) ≡ true) × (opening-legal (some (plus 0)) ≡ false)
+  pub editions : (opening-legal none ≡ true)
+      × (opening-legal (some (plus 1)) ≡ true)
+      × (opening-legal (some (plus 2)) ≡ true)
+      × (opening-legal (some (plus 0)) ≡ false)
       × (opening-legal (some (plus 3)) ≡ false)
       × (opening-legal (some (below-zero 1)) ≡ false)
 
@@ -191,7 +212,8 @@ C-bare = 67 ∷ 0 ∷ 0 ∷ 0 ∷ 0 ∷ 0 ∷ 0 ∷ 0 ∷ 0 ∷ []
 
 -- source document 001's transitions: a choice goes on by a branch, a `rec` as its body with the name replaced by it
 pub record TypesAllow : Type 0 where
-  pub completes : (completed-list (protocol-rules (unopened P-type)) (said-from Device (ask 100) ∷ said-from Host ok ∷ said-from Device quit ∷ []) ≡ true)
+  pub completes : (completed-list (protocol-rules (unopened P-type)) (said-from Device (ask 100) ∷ said-from Host ok ∷ said-from Device quit ∷ [])
+      ≡ true)
       × (completed-list (protocol-rules (unopened P-type)) (said-from Device (ask 100) ∷ said-from Host ok ∷ []) ≡ false)
       × (allowed-list (protocol-rules (unopened P-type)) (said-from Device (ask 100) ∷ said-from Host ok ∷ said-from Device (ask 0) ∷ []) ≡ true)
   pub forbids : (allowed-list (protocol-rules (unopened P-type)) (said-from Device (ask 101) ∷ []) ≡ false)
@@ -206,7 +228,8 @@ pub record TypesAllow : Type 0 where
       × (protocol-rules (unopened P-type) .sort (rec-X (rec-Y (choice receiving (one-branch "B" X)))) ≡ T.receives)
   pub editions-of : (protocol-rules (unopened stop) .edition ≡ 1) × (protocol-rules (record { opening = some (plus 2); type = stop }) .edition ≡ 2)
   -- after A, the inner `rec`'s B again and again, and A no more
-  pub innermost-again : (allowed-list (protocol-rules (unopened inner-X)) (said-from Device A-bare ∷ said-from Host B-bare ∷ said-from Host B-bare ∷ []) ≡ true)
+  pub innermost-again : (allowed-list (protocol-rules (unopened inner-X)) (said-from Device A-bare ∷ said-from Host B-bare ∷ said-from Host B-bare ∷ [])
+      ≡ true)
       × (allowed-list (protocol-rules (unopened inner-X)) (said-from Device A-bare ∷ said-from Host B-bare ∷ said-from Device A-bare ∷ []) ≡ false)
   -- a name of the outer `rec` goes back through the inner one
   pub outer-again : (allowed-list (protocol-rules (unopened (rec-Y (sends-A (rec-X (choice receiving (or-branch "B" X (one-branch "C" Y)))))))) (said-from Device A-bare
@@ -219,6 +242,7 @@ pub record TypesAllow : Type 0 where
       ∷ said-from Host B-bare
       ∷ []) ≡ false)
   -- "The dual exchanges sending and receiving; the dual of the dual is the table itself"
-  pub duals : (table-of (dual-protocol (record { opening = some (plus 2); type = P-type })) ≡ T.dual (P-under 2)) × (dual-type (dual-type P-type) ≡ P-type)
+  pub duals : (table-of (dual-protocol (record { opening = some (plus 2); type = P-type })) ≡ T.dual (P-under 2))
+      × (dual-type (dual-type P-type) ≡ P-type)
       × (dual-type (choice sending (or-branch "A" X (one-branch "B" stop))) ≡ choice receiving (or-branch "A" X (one-branch "B" stop)))
   pub other-side : (flip (said-from Device ok) ≡ said-from Host ok) × (flip (said-from Host ok) ≡ said-from Device ok)

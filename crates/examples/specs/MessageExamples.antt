@@ -31,8 +31,8 @@ flag-and-text = one-letter 65 ++ (2 ∷ 2 ∷ 1 ∷ 0 ∷ 0 ∷ 0 ∷ 1 ∷ 0 �
 abbrev pub value-of-kind : ℕ → ℕ → Value
 value-of-kind k n = record { kind = k; number = n }
 
--- "Label (8 bytes, filled up with 0x00), field count n (1 byte), then two parallel arrays, n kinds (1 byte; 0 int, 1 text, 2 flag) and n numbers (4 bytes, two's
--- complement, high byte first), then the texts' bytes in field order."
+-- "Label (8 bytes, filled up with 0x00), field count n (1 byte), then two parallel arrays, n kinds (1 byte; 0 int, 1 text, 2 flag) and n numbers (4
+-- bytes, two's complement, high byte first), then the texts' bytes in field order."
 pub record MessagesRead : Type 0 where
   pub numbers : read two-ints ≡ record { label = one-letter 65; values = value-of-kind 0 2147483646 ∷ value-of-kind 0 2164392708 ∷ [] }
   pub kinds : read flag-and-text ≡ record { label = one-letter 65; values = value-of-kind 2 2147483649 ∷ value-of-kind 1 2147483650 ∷ [] }
@@ -41,8 +41,8 @@ pub record MessagesRead : Type 0 where
 
 -- ---- the questions
 
--- "13. Are there nine bytes, a legal label, a count of at most 4, and both arrays whole?" "A name or label is A-Z followed by A-Z, a-z, 0-9, one to eight bytes in
--- all."
+-- "13. Are there nine bytes, a legal label, a count of at most 4, and both arrays whole?" "A name or label is A-Z followed by A-Z, a-z, 0-9, one to
+-- eight bytes in all."
 pub record LabelsAsked : Type 0 where
   pub eight-bytes : refusal (one-letter 65) ≡ 13
   pub nine-bytes : refusal (one-letter 65 ++ (0 ∷ [])) ≡ 0
@@ -89,19 +89,23 @@ pub record MessagesAsked : Type 0 where
   -- 22
   pub no-text : refusal (A-of 1 (0 ∷ 0 ∷ 0 ∷ 1 ∷ []) (0xE9 ∷ [])) ≡ 22
   -- well formed, but for each of the four
-  pub formed : (well-formed flag-and-text ≡ true) × (well-formed (one-letter 97 ++ (0 ∷ [])) ≡ false) × (well-formed (A-of 2 (0 ∷ 0 ∷ 0 ∷ 2 ∷ []) []) ≡ false)
+  pub formed : (well-formed flag-and-text ≡ true)
+      × (well-formed (one-letter 97 ++ (0 ∷ [])) ≡ false)
+      × (well-formed (A-of 2 (0 ∷ 0 ∷ 0 ∷ 2 ∷ []) []) ≡ false)
       × (well-formed (A-of 2 (0 ∷ 0 ∷ 0 ∷ 1 ∷ []) (7 ∷ [])) ≡ false)
       × (well-formed (A-of 1 (0 ∷ 0 ∷ 0 ∷ 1 ∷ []) (0xE9 ∷ [])) ≡ false)
 
--- of a front, which may go on: 13 or 14, or the length that it announces; whether none that follow mend it; request 3: "yes exactly when there are at least eight
--- and the first eight are the branch's label"
+-- of a front, which may go on: 13 or 14, or the length that it announces; whether none that follow mend it; request 3: "yes exactly when there are at
+-- least eight and the first eight are the branch's label"
 pub record FrontsAsked : Type 0 where
   pub announced : front-of (A-of 1 (0 ∷ 0 ∷ 0 ∷ 3 ∷ []) []) ≡ record { question = 0; length = 17 }
   pub no-text : front-of (one-letter 65 ++ (0 ∷ 7 ∷ [])) ≡ record { question = 0; length = 9 }
   pub fourteen : front-of (A-of 2 (0 ∷ 0 ∷ 0 ∷ 3 ∷ []) []) ≡ record { question = 14; length = 0 }
   pub thirteen-first : front-of (one-letter 65 ++ (1 ∷ 3 ∷ 0 ∷ [])) ≡ record { question = 13; length = 0 }
   pub mended : (broken (one-letter 97) ≡ false) × (broken (one-letter 65 ++ (4 ∷ [])) ≡ false) × (broken (one-letter 65 ++ (1 ∷ [])) ≡ false)
-  pub never-mended : (broken (one-letter 97 ++ (0 ∷ [])) ≡ true) × (broken (one-letter 65 ++ (5 ∷ [])) ≡ true) × (broken (A-of 3 (0 ∷ 0 ∷ 0 ∷ 0 ∷ []) []) ≡ true)
+  pub never-mended : (broken (one-letter 97 ++ (0 ∷ [])) ≡ true)
+      × (broken (one-letter 65 ++ (5 ∷ [])) ≡ true)
+      × (broken (A-of 3 (0 ∷ 0 ∷ 0 ∷ 0 ∷ []) []) ≡ true)
   pub label : (has-label (one-letter 65) 0x4100000000000000 ≡ true) × (has-label (ask 5) 0x41736B0000000000 ≡ true)
       × (has-label (ask 5) 0x41736B0000000001 ≡ false)
       × (has-label (ask 5) 0x42736B0000000000 ≡ false)
@@ -122,16 +126,18 @@ A-made sign int text flag spaces =
 abbrev pub A-from : ℕ → T.Branch
 A-from n = branch-to 0 (one-letter 65) (record { kind = 0; low = n; high = n } ∷ []) 1
 
--- "every number low, or one named field high, texts filled with 0x20. It asks 9; 18. Does the branch exist, and has it the named field? Then 16. The answer is its
--- length; the rest of the buffer is unchanged." "any count 0"
+-- "every number low, or one named field high, texts filled with 0x20. It asks 9; 18. Does the branch exist, and has it the named field? Then 16. The
+-- answer is its length; the rest of the buffer is unchanged." "any count 0"
 pub record MessagesMade : Type 0 where
   pub low : making three-kinds 0 none (replicate 26 7) ≡ record { numbers = (0, 25); buffer = A-made 0xFF 0xFB 1 0 (0x20 ∷ 7 ∷ []) }
   pub int-high : making three-kinds 0 (some 0) (replicate 25 7) ≡ record { numbers = (0, 25); buffer = A-made 0 3 1 0 (0x20 ∷ []) }
   pub text-high : making three-kinds 0 (some 1) (replicate 26 7) ≡ record { numbers = (0, 26); buffer = A-made 0xFF 0xFB 2 0 (0x20 ∷ 0x20 ∷ []) }
   pub flag-high : making three-kinds 0 (some 2) (replicate 26 7) ≡ record { numbers = (0, 25); buffer = A-made 0xFF 0xFB 1 1 (0x20 ∷ 7 ∷ []) }
-  -- the four bytes of the least int, of -1, of 0 and of the most; of 0x01020304
-  pub int-edges : (made (A-from 0) none ≡ A-of 0 (0x80 ∷ 0 ∷ 0 ∷ 0 ∷ []) []) × (made (A-from 2147483647) none ≡ A-of 0 (0xFF ∷ 0xFF ∷ 0xFF ∷ 0xFF ∷ []) [])
+  -- the four bytes of the least int, of -1, of 0, of 0x01000000 and of the most; of 0x01020304
+  pub int-edges : (made (A-from 0) none ≡ A-of 0 (0x80 ∷ 0 ∷ 0 ∷ 0 ∷ []) [])
+      × (made (A-from 2147483647) none ≡ A-of 0 (0xFF ∷ 0xFF ∷ 0xFF ∷ 0xFF ∷ []) [])
       × (made (A-from 2147483648) none ≡ A-of 0 (0 ∷ 0 ∷ 0 ∷ 0 ∷ []) [])
+      × (made (A-from 2164260864) none ≡ A-of 0 (1 ∷ 0 ∷ 0 ∷ 0 ∷ []) [])
       × (made (A-from 4294967295) none ≡ A-of 0 (0x7F ∷ 0xFF ∷ 0xFF ∷ 0xFF ∷ []) [])
   pub four-bytes : made (A-from 2164392708) none ≡ A-of 0 (1 ∷ 2 ∷ 3 ∷ 4 ∷ []) []
   pub no-room : making three-kinds 0 (some 1) (replicate 25 7) ≡ record { numbers = (16, 0); buffer = replicate 25 7 }

@@ -1,5 +1,5 @@
--- Document 01's "One step of the monitor": judgements, the questions of a step in their order, whose turn it is and the due part; and request 7's edition 2.
--- Assumes nothing.
+-- Document 01's "One step of the monitor": judgements, the questions of a step in their order, whose turn it is and the due part; and request 7's
+-- edition 2. Assumes nothing.
 use mathlib.Core.Path.{_≡_}
 use mathlib.Core.Bool.{true, false}
 use mathlib.Core.List.{List, [], _∷_, _++_, map}
@@ -86,8 +86,9 @@ quit = 81 ∷ 117 ∷ 105 ∷ 116 ∷ 0 ∷ 0 ∷ 0 ∷ 0 ∷ 0 ∷ []
 abbrev pub ask-flag : List ℕ
 ask-flag = 65 ∷ 115 ∷ 107 ∷ 0 ∷ 0 ∷ 0 ∷ 0 ∷ 0 ∷ 1 ∷ 2 ∷ 0 ∷ 0 ∷ 0 ∷ 1 ∷ []
 
--- "A step asks 9, then 10. Is the standing running? 11. Is the position not an end? 12. Is it this side's turn? then 13, 14, 15, then 16"; request 6: "22 .. after 15
--- and before 16". Each of these would get a no from the questions after it, too. "A no returns the number; state and output are unchanged."
+-- "A step asks 9, then 10. Is the standing running? 11. Is the position not an end? 12. Is it this side's turn? then 13, 14, 15, then 16"; request 6:
+-- "22 .. after 15 and before 16". Each of these would get a no from the questions after it, too. "A no returns the number; state and output are
+-- unchanged."
 pub record StepsAsked : Type 0 where
   pub nine : stepping P1 (at-position 3 DeviceBlamed) Host [] [] ≡ gives (refused 9) 3 DeviceBlamed []
   pub ten : stepping P1 (at-position 2 HostBlamed) Host [] [] ≡ gives (refused 10) 2 HostBlamed []
@@ -105,8 +106,8 @@ pub record StepsAsked : Type 0 where
   pub early-fourteen : stepping P2 fresh Host (A-of 3 (0 ∷ 0 ∷ 0 ∷ 0 ∷ []) []) [] ≡ gives (refused 14) 0 Running []
   pub early-sixteen : stepping P2 fresh Host ok (replicate 8 7) ≡ gives (refused 16) 0 Running (replicate 8 7)
 
--- "If none holds, the message's bytes open the output, the rest of which is unchanged, and the position moves to the target. If one does, the sender is blamed with that
--- reason; position and output are unchanged."
+-- "If none holds, the message's bytes open the output, the rest of which is unchanged, and the position moves to the target. If one does, the sender
+-- is blamed with that reason; position and output are unchanged."
 pub record StepsJudged : Type 0 where
   pub on : stepping P1 (at-position 1 Running) Host ok (replicate 10 7) ≡ gives forwarded 0 Running (ok ++ (7 ∷ []))
   pub to-the-end : stepping P1 fresh Device quit (replicate 9 7) ≡ gives forwarded 2 Running quit
@@ -127,7 +128,8 @@ pub record DueParts : Type 0 where
   pub answers : (turn-answer (Turns.Refused 11) ≡ D.refused 11) × (turn-answer (Turns.Of Host) ≡ of-side Host)
   -- all there, with something behind it or not; not all there; 13; 14
   pub first : (first-length (ask 101 ++ (7 ∷ [])) ≡ 14) × (first-length (ask 101) ≡ 14)
-  pub a-part : (first-length (65 ∷ 115 ∷ 107 ∷ 0 ∷ 0 ∷ 0 ∷ 0 ∷ 0 ∷ 1 ∷ 0 ∷ 0 ∷ 0 ∷ 0 ∷ []) ≡ 0) × (first-length (A-of 1 (0 ∷ 0 ∷ 0 ∷ 2 ∷ []) (111 ∷ [])) ≡ 0)
+  pub a-part : (first-length (65 ∷ 115 ∷ 107 ∷ 0 ∷ 0 ∷ 0 ∷ 0 ∷ 0 ∷ 1 ∷ 0 ∷ 0 ∷ 0 ∷ 0 ∷ []) ≡ 0)
+      × (first-length (A-of 1 (0 ∷ 0 ∷ 0 ∷ 2 ∷ []) (111 ∷ [])) ≡ 0)
   pub no-message : (first-length (one-letter 97 ++ (0 ∷ [])) ≡ 0) × (first-length (A-of 3 (0 ∷ 0 ∷ 0 ∷ 0 ∷ []) []) ≡ 0)
   -- request 6: "the due part is cut by length as before"
   pub by-length : first-length (A-of 1 (0 ∷ 0 ∷ 0 ∷ 1 ∷ []) (0xE9 ∷ 7 ∷ [])) ≡ 15
@@ -146,11 +148,14 @@ pub record ListsLed : Type 0 where
       × (allowed-list (table-rules P-seen) [] ≡ true)
       × (completed-list (table-rules P-seen) [] ≡ false)
   -- forbidden, out of turn, at an end
-  pub not-allowed : (allowed-list (table-rules P-seen) (said-from Device (ask 101) ∷ []) ≡ false) × (completed-list (table-rules P-seen) (said-from Device (ask 101) ∷ []) ≡ false)
+  pub not-allowed : (allowed-list (table-rules P-seen) (said-from Device (ask 101) ∷ []) ≡ false)
+      × (completed-list (table-rules P-seen) (said-from Device (ask 101) ∷ []) ≡ false)
       × (allowed-list (table-rules P-seen) (said-from Host quit ∷ []) ≡ false)
       × (allowed-list (table-rules P-seen) (said-from Device quit ∷ said-from Device quit ∷ []) ≡ false)
   -- a side is judged on its turn; request 7: under 2 on the other's, too, but not at an end
-  pub listened : (listens (table-rules P-seen) 0 Device ≡ true) × (listens (table-rules P-seen) 0 Host ≡ false) × (listens (table-rules (P-under 2)) 0 Host ≡ true)
+  pub listened : (listens (table-rules P-seen) 0 Device ≡ true)
+      × (listens (table-rules P-seen) 0 Host ≡ false)
+      × (listens (table-rules (P-under 2)) 0 Host ≡ true)
       × (listens (table-rules (P-under 2)) 2 Host ≡ false)
 
 -- with room for its bytes, which are none the longer

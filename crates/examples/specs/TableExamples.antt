@@ -47,8 +47,8 @@ abbrev pub end-to-end : List (List ℕ) → List ℕ
 end-to-end [] = []
 end-to-end (c ∷ cs) = c ++ end-to-end cs
 
--- P's words, with the sorts that are given: how many states and branches, sorts, owners, targets, field counts, the labels' first and last four bytes,
--- kinds, lows, highs, shares, edition
+-- P's words, with the sorts that are given: how many states and branches, sorts, owners, targets, field counts, the labels' first and last four
+-- bytes, kinds, lows, highs, shares, edition
 abbrev pub P-words : List ℕ → ℕ → Words
 P-words sorts e =
     3 ∷ 3
@@ -151,18 +151,22 @@ of-shares v w =
       edition = 1;
     }
 
--- "A table is sound when it has 1 to 32 states and at most 128 branches; an end owns no branch and a choice at least one; labels are legal and differ within a
--- state; fields keep the limits above and no range is empty; every branch is of one state and every target is a state."
+-- "A table is sound when it has 1 to 32 states and at most 128 branches; an end owns no branch and a choice at least one; labels are legal and differ
+-- within a state; fields keep the limits above and no range is empty; every branch is of one state and every target is a state."
 pub record SoundTables : Type 0 where
   pub sound : T.sound (two-states (branch-to 0 (one-letter 65) [] 1 ∷ [])) ≡ true
-  pub states : (T.sound (of-states [] []) ≡ false) × (T.sound (of-states (replicate 32 T.ends) []) ≡ true) × (T.sound (of-states (replicate 33 T.ends) []) ≡ false)
+  pub states : (T.sound (of-states [] []) ≡ false)
+      × (T.sound (of-states (replicate 32 T.ends) []) ≡ true)
+      × (T.sound (of-states (replicate 33 T.ends) []) ≡ false)
   pub branches : (T.sound (grid 128) ≡ true) × (T.sound (grid 129) ≡ false)
   -- an end that owns a branch; a choice that owns none, of either sort, and the second of two; a branch of no state
-  pub owners : (T.sound (two-states (branch-to 0 (one-letter 65) [] 1 ∷ branch-to 1 (one-letter 65) [] 1 ∷ [])) ≡ false) × (T.sound (two-states []) ≡ false)
+  pub owners : (T.sound (two-states (branch-to 0 (one-letter 65) [] 1 ∷ branch-to 1 (one-letter 65) [] 1 ∷ [])) ≡ false)
+      × (T.sound (two-states []) ≡ false)
       × (T.sound (of-states (T.receives ∷ []) []) ≡ false)
       × (T.sound (of-states (T.sends ∷ T.sends ∷ []) (branch-to 0 (one-letter 65) [] 1 ∷ [])) ≡ false)
       × (T.sound (two-states (branch-to 0 (one-letter 65) [] 1 ∷ branch-to 2 (one-letter 65) [] 1 ∷ [])) ≡ false)
-  pub targets : (T.sound (two-states (branch-to 0 (one-letter 65) [] 0 ∷ [])) ≡ true) × (T.sound (two-states (branch-to 0 (one-letter 65) [] 2 ∷ [])) ≡ false)
+  pub targets : (T.sound (two-states (branch-to 0 (one-letter 65) [] 0 ∷ [])) ≡ true)
+      × (T.sound (two-states (branch-to 0 (one-letter 65) [] 2 ∷ [])) ≡ false)
   -- not legal; of seven and of nine bytes
   pub legal-labels : (T.sound (two-states (branch-to 0 (one-letter 97) [] 1 ∷ [])) ≡ false)
       × (T.sound (two-states (branch-to 0 (65 ∷ 0 ∷ 0 ∷ 0 ∷ 0 ∷ 0 ∷ 0 ∷ []) [] 1 ∷ [])) ≡ false)
@@ -176,7 +180,9 @@ pub record SoundTables : Type 0 where
   pub fields : (T.sound (two-states (branch-to 0 (one-letter 65) (replicate 4 (record { kind = 0; low = 5; high = 5 })) 1 ∷ [])) ≡ true)
       × (T.sound (two-states (branch-to 0 (one-letter 65) (replicate 5 (record { kind = 0; low = 5; high = 5 })) 1 ∷ [])) ≡ false)
   -- an empty range; each kind's numbers plus 2^31, and one beyond on either side; a fourth kind
-  pub ranges : (T.sound (one-range T.sends 0 5 4) ≡ false) × (T.sound (one-range T.sends 0 0 4294967295) ≡ true) × (T.sound (one-range T.sends 0 0 4294967296) ≡ false)
+  pub ranges : (T.sound (one-range T.sends 0 5 4) ≡ false)
+      × (T.sound (one-range T.sends 0 0 4294967295) ≡ true)
+      × (T.sound (one-range T.sends 0 0 4294967296) ≡ false)
       × (T.sound (one-range T.sends 0 4294967296 4294967296) ≡ false)
   pub text-ranges : (T.sound (one-range T.sends 1 2147483648 2147483712) ≡ true) × (T.sound (one-range T.sends 1 2147483648 2147483713) ≡ false)
       × (T.sound (one-range T.sends 1 2147483647 2147483712) ≡ false)
@@ -196,8 +202,8 @@ pub record SoundTables : Type 0 where
         edition = 1;
       })
       ≡ true
-  -- of words: a code that is no sort's, where it is a state's and where not; an edition that is none (request 7: "9 asks that a table's edition be 1 or 2");
-  -- a share beside none
+  -- of words: a code that is no sort's, where it is a state's and where not; an edition that is none (request 7: "9 asks that a table's edition be 1
+  -- or 2"); a share beside none
   pub words : (sound-of P1 ≡ true) × (sound-of P2 ≡ true) × (sound-of (set P1 3 3) ≡ false) × (sound-of (set P1 5 3) ≡ true)
       × (sound-of (set P1 2338 0) ≡ false)
       × (sound-of (set P1 2338 3) ≡ false)

@@ -65,8 +65,9 @@ right-pairs =
       takes-more = (refl, refl, refl, refl);
       kinds = (refl, refl, refl, refl);
       labels = (refl, refl, refl, refl);
-      ends = (refl, refl, refl, refl, refl);
+      ends = (refl, refl, refl, refl, refl, refl);
       own-branches = (refl, refl, refl, refl);
+      own-numbers = (refl, refl, refl, refl, refl, refl);
     }
 
 pub fit-checked : FitChecked
@@ -99,7 +100,7 @@ unfolding BitsDigits.sum ExamplesTwelve.E ExamplesTwelve.P GrammarBuilding.add-b
     Utf8Utf8.utf8-char Utf8Utf8.within
 fit-checked =
     record {
-      asked = (refl, refl, refl, refl, refl, refl);
+      asked = (refl, refl, refl, refl, refl, refl, refl);
       P-right = (refl, refl, refl);
       P-reached = (refl, refl, refl, refl);
       P-forwarded = (refl, refl);
@@ -112,6 +113,7 @@ fit-checked =
       shown-high = refl;
       whose-table = (refl, refl);
       of-states-there = (refl, refl, refl, refl, refl);
+      of-own-tables = (refl, refl, refl, refl, refl);
       but-the-last = (refl, refl);
       fields-of-last = (refl, refl, refl);
       named = (refl, refl, refl);
