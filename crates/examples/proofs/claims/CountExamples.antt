@@ -1,6 +1,7 @@
 -- The examples, computed. Printed by `tests/pins --proofs CountExamples`. Assumes nothing.
 use mathlib.Core.Path.{refl}
 use Rattle.examples.specs.CountExamples.{ConversationsStarted, CountsKept, CountsTallied, BranchesWarn, WarningsTold}
+use Rattle.conversation.specs.Batches as ConversationBatches
 use Rattle.conversation.specs.Conversation as ConversationConversation
 use Rattle.conversation.specs.Counting as ConversationCounting
 use Rattle.conversation.specs.Counts as ConversationCounts
@@ -74,8 +75,8 @@ counts-kept =
     }
 
 pub counts-tallied : CountsTallied
-unfolding ConversationConversation.conversation ConversationConversation.event ConversationConversation.is-forwarded ConversationConversation.played
-    ConversationCounting.counts-after ConversationCounting.forwarded-at ConversationCounting.picked ConversationCounting.picks
+unfolding ConversationBatches.counts-after ConversationConversation.conversation ConversationConversation.event ConversationConversation.is-forwarded
+    ConversationConversation.played ConversationCounting.forwarded-at ConversationCounting.picked ConversationCounting.picks
     ConversationCounting.times ConversationCounts.counted ConversationCounts.fresh-counts ConversationCounts.raised ConversationCounts.raised-at
     ConversationCounts.raised-by ConversationStep.blame ConversationStep.blaming ConversationStep.forwarding ConversationStep.fresh
     ConversationStep.is-running ConversationStep.judging ConversationStep.of-message ConversationStep.of-state ConversationStep.refusing
@@ -112,8 +113,8 @@ branches-warn =
 
 pub warnings-told : WarningsTold
 unfolding ConversationCounts.adds-up ConversationCounts.counts-sound ConversationCounts.legal-setting ConversationStep.fresh
-    ConversationWarning.difference ConversationWarning.estimate ConversationWarning.estimate-of ConversationWarning.notice-of
-    ConversationWarning.rounded ConversationWarning.square ConversationWarning.notice ConversationWarning.warning
+    ConversationWarning.difference ConversationWarning.estimate ConversationWarning.estimate-of ConversationWarning.notice
+    ConversationWarning.notice-of ConversationWarning.rounded ConversationWarning.square ConversationWarning.warning
     ConversationWarning.warning-questions ConversationWarning.warns GrammarBuilding.add-branch GrammarBuilding.add-share GrammarBuilding.add-state
     GrammarBuilding.choice-right GrammarBuilding.denied GrammarBuilding.label-used GrammarBuilding.set-edition GrammarFilled.filled
     GrammarNumber.in-count GrammarNumber.in-kind GrammarNumber.offset GrammarNumber.signed-of GrammarNumber.value-of GrammarReading.began

@@ -14,10 +14,9 @@ use Rattle.table.specs.View as TableView
 use Rattle.types.specs.Types as TypesTypes
 
 pub trees-printed : TreesPrinted
-unfolding GrammarGrammar.tok-of GrammarNumber.signed-of GrammarNumber.value-of GrammarToken.packed GrammarToken.word-of GrammarScanner.begin-at
-    GrammarScanner.class-of GrammarScanner.dots-token GrammarScanner.name-token GrammarScanner.number-kind GrammarScanner.number-token
-    GrammarScanner.run-end GrammarScanner.run-of GrammarScanner.token-at GrammarScanner.tokens GrammarScanner.tokens-from GrammarScanner.word-kind
-    GrammarScanner.word-token TableLists.matched TableLists.same TableTable.letter-or-digit
+unfolding GrammarToken.packed GrammarToken.word-of GrammarScanner.begin-at GrammarScanner.class-of GrammarScanner.dots-token GrammarScanner.name-token
+    GrammarScanner.number-kind GrammarScanner.number-token GrammarScanner.run-end GrammarScanner.run-of GrammarScanner.token-at GrammarScanner.tokens
+    GrammarScanner.tokens-from GrammarScanner.word-kind GrammarScanner.word-token TableLists.matched TableLists.same TableTable.letter-or-digit
 trees-printed =
     record {
       stops = refl;
@@ -42,8 +41,8 @@ trees-mean =
     }
 
 pub trees-asked : TreesAsked
-unfolding GrammarGrammar.fields-legal GrammarGrammar.range-legal GrammarNumber.in-count GrammarNumber.in-kind GrammarNumber.offset GrammarToken.packed
-    GrammarToken.word-of TableLists.every TableLists.sum-of TableTable.known-edition TableTable.shares-right TableTable.within-kind
+unfolding GrammarNumber.in-count GrammarToken.packed GrammarToken.word-of TableLists.every TableLists.sum-of TableTable.known-edition
+    TableTable.shares-right
 trees-asked =
     record {
       bound = (refl, refl, refl, refl, refl, refl, refl);

@@ -131,13 +131,13 @@ unfolding ConversationConversation.blamed-else ConversationConversation.blamed-f
     MessageJudge.holds MessageJudge.in-range MessageJudge.judge MessageJudge.judge-among MessageJudge.names MessageJudge.same-kind MessageMake.opening
     MessageMessage.announced MessageMessage.count-of MessageMessage.cut-up MessageMessage.exact MessageMessage.first-number MessageMessage.legal-texts
     MessageMessage.legal-value MessageMessage.legal-values MessageMessage.number-of MessageMessage.pair-up MessageMessage.read
-    MessageMessage.text-bytes MessageMessage.texts-of MessageMessage.values-of MessageMessage.whole MessageRules.judge-said TableLists.every
-    TableLists.first-no TableLists.matched TableLists.same TableLists.some-one TableLists.sum-of TableLists.upto TableTable.choices-own
-    TableTable.clash TableTable.is-choice TableTable.is-party TableTable.known-edition TableTable.label-rest TableTable.labels-differ
-    TableTable.legal-branch TableTable.legal-field TableTable.legal-label TableTable.letter-or-digit TableTable.of-choice TableTable.shares-kept
-    TableTable.shares-right TableTable.sort TableTable.sound TableTable.speaker TableTable.upper TableTable.within-kind TableView.known
-    TableView.label-of TableView.regular-of TableView.sort-of TableView.sound-at TableView.sound-of TableView.view Utf8Utf8.is-utf8 Utf8Utf8.octets
-    Utf8Utf8.some-row Utf8Utf8.utf8-char Utf8Utf8.within
+    MessageMessage.text-bytes MessageMessage.texts-of MessageMessage.values-of MessageMessage.whole MessageRules.judge-said MessageRules.listens
+    TableLists.every TableLists.first-no TableLists.matched TableLists.same TableLists.some-one TableLists.sum-of TableLists.upto
+    TableTable.choices-own TableTable.clash TableTable.is-choice TableTable.is-party TableTable.known-edition TableTable.label-rest
+    TableTable.labels-differ TableTable.legal-branch TableTable.legal-field TableTable.legal-label TableTable.letter-or-digit TableTable.of-choice
+    TableTable.shares-kept TableTable.shares-right TableTable.sort TableTable.sound TableTable.speaker TableTable.upper TableTable.within-kind
+    TableView.known TableView.label-of TableView.regular-of TableView.sort-of TableView.sound-at TableView.sound-of TableView.view Utf8Utf8.is-utf8
+    Utf8Utf8.octets Utf8Utf8.some-row Utf8Utf8.utf8-char Utf8Utf8.within
 conversations-held =
     record {
       verdicts = refl;
