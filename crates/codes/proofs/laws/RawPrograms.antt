@@ -214,7 +214,7 @@ module _ (t : Words) (s : State) (c : Counts) where
     unfolding raw-called step-codes crossing stepping-as bytes-after refusing
     none-keeps = refl
 
-  pub says : (x : RawCall) → RawSays t s c x (raw-called t (kept s c) x .0)
+  says : (x : RawCall) → RawSays t s c x (raw-called t (kept s c) x .0)
   unfolding raw-called
   says (raw-step zero message out) = rw (codes-step t s c Device message out) (says-step device-is-0 (verdict-says _))
   says (raw-step (suc zero) message out) = rw (codes-step t s c Host message out) (says-step host-is-1 (verdict-says _))

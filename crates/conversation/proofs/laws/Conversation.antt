@@ -70,7 +70,7 @@ next-allows {A} rules a v b e = go (is-party (v .side) (turn rules a)) e
     go true e = e
     go false e = none-some e
 
-unfoldable pub or-else : Option Party → Option Party → Option Party
+or-else : Option Party → Option Party → Option Party
 or-else none later = later
 or-else (some side) later = some side
 
@@ -79,7 +79,7 @@ unfolding or-else
 or-none none = refl
 or-none (some side) = refl
 
-pub blamed-append : (a b : List Event) → blamed-first (a ++ b) ≡ or-else (blamed-first a) (blamed-first b)
+blamed-append : (a b : List Event) → blamed-first (a ++ b) ≡ or-else (blamed-first a) (blamed-first b)
 unfolding blamed-first or-else blamed-else
 blamed-append [] b = refl
 blamed-append (e ∷ r) b = ap (blamed-else (e .done .verdict)) (blamed-append r b) ∙ go (e .done .verdict)

@@ -35,12 +35,12 @@ module _ (t : Words) where
   -- ---- what calls come to
 
   -- of one call: its steps are played, and lead to the state and the counts that it gives
-  pub record Leaves (s : State) (c : Counts) (g : Given) (events : List Event) : Type 0 where
-    pub plays : Played t s events
-    pub state : given-state g ≡ state-after s events
-    pub counts : given-counts g ≡ counts-after t c events
+  record Leaves (s : State) (c : Counts) (g : Given) (events : List Event) : Type 0 where
+    plays : Played t s events
+    state : given-state g ≡ state-after s events
+    counts : given-counts g ≡ counts-after t c events
 
-  pub leaves : {s : State} {c : Counts} {k : Call} {g : Given} {events : List Event} → CallDone t s c k g events → Leaves s c g events
+  leaves : {s : State} {c : Counts} {k : Call} {g : Given} {events : List Event} → CallDone t s c k g events → Leaves s c g events
   unfolding played event given-state given-counts state-after counts-after summed begun
   leaves step-done = record { plays = refl; state = refl; counts = refl }
   leaves (batch-done on x) = record { plays = singly-played t x; state = refl; counts = refl }
