@@ -168,7 +168,7 @@ six-sent =
     sent-by Device (ask 100) 14 ∷ sent-by Device quit 9 ∷ sent-by Host ok 8 ∷ sent-by Host ok 9 ∷ sent-by Device (ask 101) 14 ∷ sent-by Device quit 9 ∷ []
 
 pub record ConversationsHeld : Type 0 where
-  -- "In a list .. each later one what the move before left": verdicts, and the states that they are met in
+  -- "The gateway keeps one state per conversation and lends it to each step to be advanced": verdicts, and the states that they are met in
   pub verdicts : map (λ (e : Event). e .done .verdict) (conversation P1 six-sent)
       ≡ forwarded ∷ refused 12 ∷ refused 16 ∷ forwarded ∷ blamed Device 3 (some 0) ∷ refused 10 ∷ []
   pub met : map (λ (e : Event). e .met) (conversation P1 six-sent)
