@@ -11,7 +11,7 @@ use Rattle.conversation.specs.declared.Standing.the-variants.{Running, DeviceBl
 use Rattle.conversation.specs.declared.Verdict.the-variants.{Refused}
 use Rattle.conversation.specs.declared.batch.Last.the-variants.{NoneDue, Answer}
 use Rattle.conversation.specs.Step.{Told, refused, blamed, forwarded, fresh}
-use Rattle.conversation.specs.Batch.{lent, Lane, Batch, batching, last-of}
+use Rattle.conversation.specs.Batch.{lent, Lane, Batch, batching, last-of, batched}
 use Rattle.conversation.specs.Counts.{Counts}
 use Rattle.examples.specs.Twelve.{ask, ok, table, P-counts}
 use Rattle.examples.specs.TableExamples.{P1, P2, one-letter}
@@ -91,5 +91,5 @@ pub record BatchesAsked : Type 0 where
         state = at-position 1 Running;
         passed = record { device = record { used = 1; written = 2 }; host = record { used = 3; written = 4 }; last = NoneDue };
       })
-      (5 ∷ []) (6 ∷ [])
-      ≡ record { state = at-position 1 Running; device = a-lane 1 2 (6 ∷ []); host = a-lane 3 4 (5 ∷ []); last = none }
+      (7 ∷ []) (5 ∷ []) (6 ∷ [])
+      ≡ came-to (at-position 1 Running) (7 ∷ []) (a-lane 1 2 (6 ∷ [])) (a-lane 3 4 (5 ∷ [])) none

@@ -11,6 +11,7 @@ use Rattle.message.specs.declared.Made.the-variants as M
 use Rattle.message.specs.Make.{high-of, made-numbers}
 use Rattle.conversation.specs.declared.Standing.the-variants.{Running, DeviceBlamed, HostBlamed}
 use Rattle.conversation.specs.Step.{refused, blamed, forwarded}
+use Rattle.conversation.specs.Batch.{lent}
 use Rattle.conversation.specs.Due as D
 use Rattle.conversation.specs.Warning as W
 use Rattle.machine.specs.Answer as F
@@ -88,7 +89,7 @@ pub record StepsInCodes : Type 0 where
 
 -- and what a batch answers, the bytes and counts after it, the device's output and the host's
 pub record BatchesInCodes : Type 0 where
-  pub blames-device : batching-codes P1 (0 ∷ 0 ∷ []) (P-counts 442 0 0 0 0 0) (ask 100 ++ ask 101) ok (replicate 10 8) (replicate 29 9)
+  pub blames-device : batching-codes P1 (0 ∷ 0 ∷ []) (P-counts 442 0 0 0 0 0) (lent (ask 100 ++ ask 101) ok (replicate 10 8) (replicate 29 9))
       ≡ (
         record {
           «used_device» = 28;
@@ -103,7 +104,7 @@ pub record BatchesInCodes : Type 0 where
         ok ++ (8 ∷ []),
         ask 100 ++ replicate 15 9,
       )
-  pub blames-host : batching-codes P1 (0 ∷ 0 ∷ []) (P-counts 442 0 0 0 0 0) (ask 100) quit (replicate 10 8) (replicate 15 9)
+  pub blames-host : batching-codes P1 (0 ∷ 0 ∷ []) (P-counts 442 0 0 0 0 0) (lent (ask 100) quit (replicate 10 8) (replicate 15 9))
       ≡ (
         record {
           «used_device» = 14;
@@ -119,7 +120,7 @@ pub record BatchesInCodes : Type 0 where
         ask 100 ++ (9 ∷ []),
       )
   -- refused, with a standing of 7 left as it was
-  pub refuses : batching-codes P1 (0 ∷ 7 ∷ []) (P-counts 442 0 0 0 0 0) (ask 100) ok [] []
+  pub refuses : batching-codes P1 (0 ∷ 7 ∷ []) (P-counts 442 0 0 0 0 0) (lent (ask 100) ok [] [])
       ≡ (
         record {
           «used_device» = 0;

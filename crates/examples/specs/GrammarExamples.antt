@@ -16,7 +16,8 @@ use Rattle.message.specs.Rules.{allowed-list, completed-list}
 use Rattle.grammar.specs.Token.{word-of}
 use Rattle.grammar.specs.inner.Scanner.{tokens}
 use Rattle.grammar.specs.Number.{Signed}
-use Rattle.grammar.specs.Grammar.{sending, receiving, Kind, int, text, flag, SyntaxField, Share, Ty, stop, var, loop, choice, Br, last, also, Protocol, tok-of, print-text, table-of, names-bound, recs-guarded, branches-legal, labels-new, depth, shares-legal, sums-right, opening-legal}
+use Rattle.grammar.specs.TokOf.{tok-of}
+use Rattle.grammar.specs.Grammar.{sending, receiving, Kind, int, text, flag, SyntaxField, Share, Ty, stop, var, loop, choice, Br, last, also, Protocol, print-text, table-of, names-bound, recs-guarded, ranges-legal, fields-few, labels-new, depth, shares-legal, sums-right, opening-legal}
 use Rattle.types.specs.Types.{protocol-rules, dual-type, dual-protocol, flip}
 use Rattle.spelling.specs.SpellingExamples.{plus, unopened, P-type}
 use Rattle.examples.specs.Twelve.{ask, ok}
@@ -148,19 +149,21 @@ pub record TreesAsked : Type 0 where
   -- the innermost `rec` of the name alone is its binder: `rec X.rec X.X` is refused for the inner one
   pub own-binder : (recs-guarded (rec-X (rec-X X)) ≡ false) × (recs-guarded (rec-X (sends-A (rec-Y X))) ≡ true)
   -- 6, and 8 of fields
-  pub ranged : (branches-legal P-type ≡ true)
-      × (branches-legal (A-fields []) ≡ true)
-      × (branches-legal (A-fields (ranging int (plus 5) (plus 5) ∷ [])) ≡ true)
-      × (branches-legal (A-fields (ranging int (plus 5) (plus 4) ∷ [])) ≡ false)
-      × (branches-legal (A-fields (ranging flag (plus 0) (plus 2) ∷ [])) ≡ false)
-      × (branches-legal (A-fields (ranging text (below-zero 1) (plus 2) ∷ [])) ≡ false)
-      × (branches-legal (A-fields (ranging int (below-zero 2147483648) (plus 2147483647) ∷ [])) ≡ true)
-      × (branches-legal (A-fields (ranging int (below-zero 2147483649) (plus 0) ∷ [])) ≡ false)
-  pub four : (branches-legal (A-fields (replicate 4 (ranging int (plus 5) (plus 5)))) ≡ true)
-      × (branches-legal (A-fields (replicate 5 (ranging int (plus 5) (plus 5)))) ≡ false)
-  pub other-branches : (branches-legal (A-fields-second (ranging int (plus 5) (plus 4) ∷ [])) ≡ false)
-      × (branches-legal (rec-X (sends-A (A-fields (ranging int (plus 5) (plus 4) ∷ [])))) ≡ false)
-      × (branches-legal (choice sending (also (word-called "A") (ranging int (plus 5) (plus 4) ∷ []) none stop (one-branch "B" stop))) ≡ false)
+  pub ranged : (ranges-legal P-type ≡ true)
+      × (ranges-legal (A-fields []) ≡ true)
+      × (ranges-legal (A-fields (ranging int (plus 5) (plus 5) ∷ [])) ≡ true)
+      × (ranges-legal (A-fields (ranging int (plus 5) (plus 4) ∷ [])) ≡ false)
+      × (ranges-legal (A-fields (ranging flag (plus 0) (plus 2) ∷ [])) ≡ false)
+      × (ranges-legal (A-fields (ranging text (below-zero 1) (plus 2) ∷ [])) ≡ false)
+      × (ranges-legal (A-fields (ranging int (below-zero 2147483648) (plus 2147483647) ∷ [])) ≡ true)
+      × (ranges-legal (A-fields (ranging int (below-zero 2147483649) (plus 0) ∷ [])) ≡ false)
+  pub four : (fields-few (A-fields (replicate 4 (ranging int (plus 5) (plus 5)))) ≡ true)
+      × (fields-few (A-fields (replicate 5 (ranging int (plus 5) (plus 5)))) ≡ false)
+  pub other-branches : (fields-few (A-fields-second (replicate 5 (ranging int (plus 5) (plus 5)))) ≡ false)
+      × (fields-few (rec-X (sends-A (A-fields (replicate 5 (ranging int (plus 5) (plus 5)))))) ≡ false)
+      × (ranges-legal (A-fields-second (ranging int (plus 5) (plus 4) ∷ [])) ≡ false)
+      × (ranges-legal (rec-X (sends-A (A-fields (ranging int (plus 5) (plus 4) ∷ [])))) ≡ false)
+      × (ranges-legal (choice sending (also (word-called "A") (ranging int (plus 5) (plus 4) ∷ []) none stop (one-branch "B" stop))) ≡ false)
   -- 7
   pub labels : (labels-new P-type ≡ true)
       × (labels-new (choice sending (or-branch "A" stop (one-branch "B" stop))) ≡ true)

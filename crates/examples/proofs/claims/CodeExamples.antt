@@ -67,9 +67,9 @@ steps-in-codes =
 pub batches-in-codes : BatchesInCodes
 unfolding CodesCalls.batch-codes CodesCalls.batch-crossing CodesCalls.batching-codes CodesCalls.bytes-for CodesCalls.stand-for
     ConversationBatch.at-side ConversationBatch.batch-questions ConversationBatch.batching ConversationBatch.begun ConversationBatch.each-side
-    ConversationBatch.go-on ConversationBatch.lane-on ConversationBatch.latest ConversationBatch.one-turn ConversationBatch.set-side
-    ConversationBatch.taking ConversationBatch.took ConversationBatch.turn-of ConversationBatch.turns ConversationBatch.used-by
-    ConversationBatch.written-by ConversationCounts.adds-up ConversationCounts.counted ConversationCounts.counts-sound
+    ConversationBatch.go-on ConversationBatch.lane-on ConversationBatch.latest ConversationBatch.lent ConversationBatch.one-turn
+    ConversationBatch.set-side ConversationBatch.taking ConversationBatch.took ConversationBatch.turn-of ConversationBatch.turns
+    ConversationBatch.used-by ConversationBatch.written-by ConversationCounts.adds-up ConversationCounts.counted ConversationCounts.counts-sound
     ConversationCounts.legal-setting ConversationCounts.raised ConversationCounts.raised-at ConversationCounts.raised-by ConversationDue.awaited
     ConversationDue.first-length ConversationDue.sender-awaited ConversationStep.blame ConversationStep.blaming ConversationStep.forwarding
     ConversationStep.is-running ConversationStep.judging ConversationStep.of-message ConversationStep.of-state ConversationStep.refusing

@@ -3,6 +3,7 @@ use mathlib.Core.Path.{refl}
 use Rattle.examples.specs.GrammarExamples.{TreesPrinted, TreesMean, TreesAsked, TypesAllow}
 use Rattle.grammar.specs.Grammar as GrammarGrammar
 use Rattle.grammar.specs.Number as GrammarNumber
+use Rattle.grammar.specs.TokOf as GrammarTokOf
 use Rattle.grammar.specs.Token as GrammarToken
 use Rattle.grammar.specs.inner.Scanner as GrammarScanner
 use Rattle.message.specs.Judge as MessageJudge
@@ -14,9 +15,10 @@ use Rattle.table.specs.View as TableView
 use Rattle.types.specs.Types as TypesTypes
 
 pub trees-printed : TreesPrinted
-unfolding GrammarToken.packed GrammarToken.word-of GrammarScanner.begin-at GrammarScanner.class-of GrammarScanner.dots-token GrammarScanner.name-token
-    GrammarScanner.number-kind GrammarScanner.number-token GrammarScanner.run-end GrammarScanner.run-of GrammarScanner.token-at GrammarScanner.tokens
-    GrammarScanner.tokens-from GrammarScanner.word-kind GrammarScanner.word-token TableLists.matched TableLists.same TableTable.letter-or-digit
+unfolding GrammarNumber.signed-of GrammarNumber.value-of GrammarTokOf.tok-of GrammarToken.packed GrammarToken.word-of GrammarScanner.begin-at
+    GrammarScanner.class-of GrammarScanner.dots-token GrammarScanner.name-token GrammarScanner.number-kind GrammarScanner.number-token
+    GrammarScanner.run-end GrammarScanner.run-of GrammarScanner.token-at GrammarScanner.tokens GrammarScanner.tokens-from GrammarScanner.word-kind
+    GrammarScanner.word-token TableLists.matched TableLists.same TableTable.letter-or-digit
 trees-printed =
     record {
       stops = refl;
@@ -41,8 +43,8 @@ trees-mean =
     }
 
 pub trees-asked : TreesAsked
-unfolding GrammarNumber.in-count GrammarToken.packed GrammarToken.word-of TableLists.every TableLists.sum-of TableTable.known-edition
-    TableTable.shares-right
+unfolding GrammarGrammar.range-legal GrammarNumber.in-count GrammarNumber.in-kind GrammarNumber.offset GrammarToken.packed GrammarToken.word-of
+    TableLists.every TableLists.sum-of TableTable.known-edition TableTable.shares-right TableTable.within-kind
 trees-asked =
     record {
       bound = (refl, refl, refl, refl, refl, refl, refl);
@@ -50,7 +52,7 @@ trees-asked =
       own-binder = (refl, refl);
       ranged = (refl, refl, refl, refl, refl, refl, refl, refl);
       four = (refl, refl);
-      other-branches = (refl, refl, refl);
+      other-branches = (refl, refl, refl, refl, refl);
       labels = (refl, refl, refl, refl, refl, refl, refl);
       depths = (refl, refl, refl, refl);
       shares = (refl, refl, refl, refl, refl, refl, refl);
