@@ -6,6 +6,7 @@ pub mod Edges
 pub mod GrammarExamples
 pub mod MachineExamples
 pub mod MessageExamples
+pub mod ProgramExamples
 pub mod ReportExamples
 pub mod Requests
 pub mod SetExamples
