@@ -3,12 +3,13 @@
 -- Assumes nothing.
 use mathlib.Core.Path.{_≡_}
 use mathlib.Core.Logic.{_↔_, _⊎_}
-use mathlib.Core.Bool.{Bool, false}
+use mathlib.Core.Bool.{Bool, true, false}
 use mathlib.Core.List.{List, [], _∷_, _++_, map}
 use Prim.Native.Nat.{ℕ, _≤_, _<_}
 use lib.Dec.{leb}
 use lib.ListN.{length}
-use Rattle.grammar.specs.Grammar.{Protocol, Tok, print-text, table-of, names-bound, recs-guarded, ranges-legal, labels-new, fields-few, depth, shares-legal, sums-right, opening-legal}
+use Rattle.table.specs.Lists.{every}
+use Rattle.grammar.specs.Grammar.{Protocol, Tok, print-text, table-of, names-bound, recs-guarded, ranges-legal, labels-new, fields-few, depth, shares-legal, sums-right, opening-legal, Legal}
 use Rattle.grammar.specs.TokOf.{tok-of}
 use Rattle.grammar.specs.Filled.{not-read}
 use Rattle.grammar.specs.Reading.{reads}
@@ -88,3 +89,7 @@ FailsBy q (t ∷ ts) = ((q ≡ t .0) × (t .1 ≡ false)) ⊎ FailsBy q ts
 abbrev pub QuestionsMean : Type 0
 QuestionsMean =
     (s : List ℕ) (p : Protocol) → length s ≤ 8192 → Spelt s (print-text p) → (reads s .question ≡ 0) ⊎ FailsBy (reads s .question) (tests p)
+
+-- It is legal exactly when it passes all of them.
+abbrev pub LegalExactly : Type 0
+LegalExactly = (p : Protocol) → Legal p ↔ (every (λ t. t .1) (tests p) ≡ true)

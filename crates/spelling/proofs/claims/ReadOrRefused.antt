@@ -9,11 +9,13 @@ use Prim.Native.Nat.{ℕ, _<_}
 use native.Mathlib.Omega.{arith}
 use lib.Dec.{leb, eqb}
 use lib.ListN.{length}
-use borrow.Author.Tests.{leb-true, leb-false, lt-leb, eqb-true, eqb-false}
+use borrow.Author.Tests.{le-leb, leb-true, leb-false, lt-leb, eqb-true, eqb-false}
+use Rattle.table.specs.Lists.{every}
 use Rattle.table.specs.View.{empty-table}
+use Rattle.table.proofs.laws.Lists.{both, join}
 use Rattle.grammar.specs.Building.{denied}
 use Rattle.grammar.specs.Filled.{filled, written, not-read}
-use Rattle.grammar.specs.Grammar.{Protocol, table-of}
+use Rattle.grammar.specs.Grammar.{Protocol, table-of, Legal}
 use Rattle.grammar.specs.Reading.{start, run-tokens, built, reads}
 use Rattle.grammar.specs.declared.Reading.{Reading}
 use Rattle.grammar.specs.inner.Scanner.{tokens}
@@ -21,7 +23,7 @@ use Rattle.grammar.proofs.laws.Legal.{Passes}
 use Rattle.grammar.proofs.laws.Reads.{passes-read}
 use Rattle.grammar.proofs.laws.Refused.{OfNumbers, run-number, question-of}
 use Rattle.grammar.proofs.laws.RunTokens.{run-refused}
-use Rattle.spelling.specs.Refusals.{Refusing, ReadOrRefused, OneMeans, tests, FailsBy, QuestionsMean}
+use Rattle.spelling.specs.Refusals.{Refusing, ReadOrRefused, OneMeans, tests, FailsBy, QuestionsMean, LegalExactly}
 use Rattle.spelling.proofs.laws.Writes.{writes-spelt}
 
 -- ---- any text
@@ -144,3 +146,41 @@ questions-mean s p l sp = go (all-settled (reads s .question) (tests p))
     go : FailsBy (reads s .question) (tests p) ⊎ PassBy (reads s .question) (tests p) → (reads s .question ≡ 0) ⊎ FailsBy (reads s .question) (tests p)
     go (inl f) = inr f
     go (inr g) = inl (passes-read s p (writes-spelt s p .1 (l, sp)) (reads s .question) refl (passed (reads s .question) p g))
+
+-- ---- legal protocols
+
+pub legal-exactly : LegalExactly
+unfolding every table-of
+legal-exactly p = (passes, legal)
+  where
+    passes : Legal p → every (λ t. t .1) (tests p) ≡ true
+    passes l =
+        join (l .bound) (join (l .guarded) (join (l .ranges) (join (l .labels) (join (le-leb _ 32 (l .states)) (join (le-leb _ 128 (l .branches))
+        (join (l .fields) (join (le-leb _ 16 (l .nested)) (join (l .shares) (join (l .sums) (join (l .edition) refl))))))))))
+
+    legal : every (λ t. t .1) (tests p) ≡ true → Legal p
+    legal e =
+        let bound = both _ _ e in
+        let guarded = both _ _ (bound .1) in
+        let ranges = both _ _ (guarded .1) in
+        let labels = both _ _ (ranges .1) in
+        let states = both _ _ (labels .1) in
+        let branches = both _ _ (states .1) in
+        let fields = both _ _ (branches .1) in
+        let nested = both _ _ (fields .1) in
+        let shares = both _ _ (nested .1) in
+        let sums = both _ _ (shares .1) in
+        let edition = both _ _ (sums .1) in
+        record {
+          bound = bound .0;
+          guarded = guarded .0;
+          ranges = ranges .0;
+          labels = labels .0;
+          fields = fields .0;
+          states = leb-true _ 32 (states .0);
+          branches = leb-true _ 128 (branches .0);
+          nested = leb-true _ 16 (nested .0);
+          shares = shares .0;
+          sums = sums .0;
+          edition = edition .0;
+        }
