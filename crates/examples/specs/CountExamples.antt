@@ -2,9 +2,8 @@
 -- Assumes nothing.
 use mathlib.Core.Path.{_≡_}
 use mathlib.Core.Bool.{true, false}
-use mathlib.Core.List.{[], _∷_, _++_}
+use mathlib.Core.List.{[], _∷_}
 use mathlib.Core.Option.{none, some}
-use Prim.Native.Nat.{ℕ}
 use lib.ListN.{replicate, set}
 use Rattle.table.specs.declared.Party.the-variants.{Device, Host}
 use Rattle.conversation.specs.declared.Standing.the-variants.{Running, DeviceBlamed, HostBlamed}

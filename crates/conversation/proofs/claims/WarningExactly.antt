@@ -1,20 +1,20 @@
 -- What the call of a warning tells and refuses. Assumes nothing.
-use mathlib.Core.Path.{_≡_, refl, sym, ap, subst, _∙_}
-use mathlib.Core.Logic.{_↔_, _⊎_, inl, inr, ⊎-elim}
+use mathlib.Core.Path.{_≡_, sym, ap, subst, _∙_}
+use mathlib.Core.Logic.{inl, inr, ⊎-elim}
 use mathlib.Core.Bool.{Bool, true, false, _&&_}
-use mathlib.Core.Option.{Option, none, some}
-use Prim.Native.Nat.{ℕ, suc, _+_, _-_, _*_, _≤_, _<_}
+use mathlib.Core.Option.{Option, none}
+use Prim.Native.Nat.{ℕ, suc, _-_, _*_, _≤_, _<_}
 use native.Mathlib.Omega.{arith}
-use lib.Dec.{ltb, eqb}
-use borrow.Author.Tests.{ltb-true, ltb-false, lt-ltb, eqb-true, eqb-false}
+use lib.Dec.{ltb}
+use borrow.Author.Tests.{ltb-true, ltb-false, lt-ltb}
 use Rattle.table.specs.Lists.{first-no}
-use Rattle.table.specs.Table.{sort, speaker}
-use Rattle.table.specs.View.{Words, branches-of, owner-at, share-at, view, sound-at}
+use Rattle.table.specs.Table.{speaker}
+use Rattle.table.specs.View.{Words, branches-of, owner-at, share-at, sound-at}
 use Rattle.table.specs.declared.Party.{Party}
 use Rattle.table.proofs.laws.Lists.{decided, never, both}
 use Rattle.conversation.specs.declared.State.{State}
 use Rattle.conversation.specs.Counts.{Counts, setting-of, n-at, k-at, counts-sound}
-use Rattle.conversation.specs.Warning.{difference, square, warns, estimate, Notice, refused, tells, notice, warning-questions, warning, Apart, NoticeMeans, WarningMeans, WarningExactly}
+use Rattle.conversation.specs.Warning.{difference, square, warns, Notice, refused, tells, notice, warning-questions, warning, Apart, NoticeMeans, WarningMeans, WarningExactly}
 use Rattle.conversation.proofs.laws.Warning.{no-share, with-share, warning-9, warning-18}
 
 -- ---- the comparison

@@ -13,7 +13,6 @@ use Rattle.table.proofs.laws.Lists.{never}
 use Rattle.message.specs.Rules.{Rules, table-rules}
 use Rattle.grammar.specs.Grammar.{Ty, Protocol, edition-named}
 use Rattle.grammar.specs.Reading.{reads}
-use Rattle.grammar.specs.declared.Reading.{Reading}
 use Rattle.grammar.proofs.laws.Reads.{read-sound}
 use Rattle.spelling.specs.TextOf.{TextOf}
 use Rattle.spelling.proofs.claims.ReadExactly.{protocol-once}
