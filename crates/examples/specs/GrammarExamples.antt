@@ -12,22 +12,20 @@ use Rattle.table.specs.Table as T
 use Rattle.table.specs.declared.Party.the-variants.{Device, Host}
 use Rattle.message.specs.Message.{read}
 use Rattle.message.specs.Judge.{forbidden}
-use Rattle.message.specs.Rules.{allowed-list, completed-list}
-use Rattle.grammar.specs.Token.{word-of}
+use Rattle.message.specs.Rules.{led, allowed-list, completed-list}
 use Rattle.grammar.specs.inner.Scanner.{tokens}
 use Rattle.grammar.specs.Number.{Signed}
 use Rattle.grammar.specs.TokOf.{tok-of}
 use Rattle.grammar.specs.Grammar.{sending, receiving, Kind, int, text, flag, SyntaxField, Share, Ty, stop, var, loop, choice, Br, last, also, Protocol, print-text, table-of, names-bound, recs-guarded, ranges-legal, fields-few, labels-new, depth, shares-legal, sums-right, opening-legal}
+use Rattle.table.specs.View.{label-of}
+use Rattle.types.specs.Monitor.{it, tell, hear, mu, name, test, done, verdict, one, more, synth}
 use Rattle.types.specs.Types.{protocol-rules, dual-type, dual-protocol, flip}
-use Rattle.spelling.specs.SpellingExamples.{plus, unopened, P-type}
+use Rattle.spelling.specs.SpellingExamples.{as-name, plus, unopened, P-type}
 use Rattle.examples.specs.Twelve.{ask, ok}
 use Rattle.examples.specs.TableExamples.{P-under, P-seen, one-letter, branch-to}
 use Rattle.examples.specs.StepExamples.{quit, ask-flag, said-from}
 
 -- ---- trees
-
-abbrev pub word-called : String → ℕ
-word-called x = word-of (ascii x)
 
 abbrev pub below-zero : ℕ → Signed
 below-zero n = record { minus = true; value = n }
@@ -37,23 +35,23 @@ ranging k l h = record { kind = k; low = l; high = h }
 
 -- branches without fields or shares
 abbrev pub one-branch : String → Ty → Br
-one-branch l t = last (word-called l) [] none t
+one-branch l t = last (as-name l) [] none t
 
 abbrev pub or-branch : String → Ty → Br → Br
-or-branch l t bs = also (word-called l) [] none t bs
+or-branch l t bs = also (as-name l) [] none t bs
 
 -- `rec X.X` and so on
 abbrev pub X : Ty
-X = var (word-called "X")
+X = var (as-name "X")
 
 abbrev pub Y : Ty
-Y = var (word-called "Y")
+Y = var (as-name "Y")
 
 abbrev pub rec-X : Ty → Ty
-rec-X t = loop (word-called "X") t
+rec-X t = loop (as-name "X") t
 
 abbrev pub rec-Y : Ty → Ty
-rec-Y t = loop (word-called "Y") t
+rec-Y t = loop (as-name "Y") t
 
 -- `+{!A().t}`
 abbrev pub sends-A : Ty → Ty
@@ -61,14 +59,14 @@ sends-A t = choice sending (one-branch "A" t)
 
 -- `+{!A(fields).end}` and `+{!B().end,!A(fields).&{?C().end}}`
 abbrev pub A-fields : List SyntaxField → Ty
-A-fields fs = choice sending (last (word-called "A") fs none stop)
+A-fields fs = choice sending (last (as-name "A") fs none stop)
 
 abbrev pub A-fields-second : List SyntaxField → Ty
-A-fields-second fs = choice sending (or-branch "B" stop (last (word-called "A") fs none (choice receiving (one-branch "C" stop))))
+A-fields-second fs = choice sending (or-branch "B" stop (last (as-name "A") fs none (choice receiving (one-branch "C" stop))))
 
 -- `+{!A()@v.t,!B()@w.end}`
 abbrev pub A-B-shares : Share → Ty → Share → Ty
-A-B-shares v t w = choice sending (also (word-called "A") [] v t (last (word-called "B") [] w stop))
+A-B-shares v t w = choice sending (also (as-name "A") [] v t (last (as-name "B") [] w stop))
 
 -- `rec X.+{!A().rec X.&{?B().X}}`: a name means the innermost `rec` of that name
 abbrev pub inner-X : Ty
@@ -97,7 +95,7 @@ pub record TreesMean : Type 0 where
   pub under-two : table-of (record { opening = some (plus 2); type = P-type }) ≡ P-under 2
   -- `+{!A()@300.&{?B().end},!C()@700.end}`: a branch behind what is nested in the one before
   pub in-order : table-of
-      (unopened (choice sending (also (word-called "A") [] (some (plus 300)) (choice receiving (one-branch "B" stop)) (last (word-called "C") [] (some (plus 700)) stop))))
+      (unopened (choice sending (also (as-name "A") [] (some (plus 300)) (choice receiving (one-branch "B" stop)) (last (as-name "C") [] (some (plus 700)) stop))))
       ≡ record {
         sorts = T.sends ∷ T.receives ∷ T.ends ∷ T.ends ∷ [];
         branches = branch-to 0 (one-letter 65) [] 1 ∷ branch-to 1 (one-letter 66) [] 2 ∷ branch-to 0 (one-letter 67) [] 3 ∷ [];
@@ -164,7 +162,7 @@ pub record TreesAsked : Type 0 where
       × (fields-few (rec-X (sends-A (A-fields (replicate 5 (ranging int (plus 5) (plus 5)))))) ≡ false)
       × (ranges-legal (A-fields-second (ranging int (plus 5) (plus 4) ∷ [])) ≡ false)
       × (ranges-legal (rec-X (sends-A (A-fields (ranging int (plus 5) (plus 4) ∷ [])))) ≡ false)
-      × (ranges-legal (choice sending (also (word-called "A") (ranging int (plus 5) (plus 4) ∷ []) none stop (one-branch "B" stop))) ≡ false)
+      × (ranges-legal (choice sending (also (as-name "A") (ranging int (plus 5) (plus 4) ∷ []) none stop (one-branch "B" stop))) ≡ false)
   -- 7
   pub labels : (labels-new P-type ≡ true)
       × (labels-new (choice sending (or-branch "A" stop (one-branch "B" stop))) ≡ true)
@@ -223,6 +221,8 @@ pub record TypesAllow : Type 0 where
   pub forbids : (allowed-list (protocol-rules (unopened P-type)) (said-from Device (ask 101) ∷ []) ≡ false)
       × (allowed-list (protocol-rules (unopened P-type)) (said-from Host quit ∷ []) ≡ false)
       × (allowed-list (protocol-rules (unopened P-type)) (said-from Device quit ∷ said-from Device quit ∷ []) ≡ false)
+  -- Ask and Ok lead back to P
+  pub leads-back : led (protocol-rules (unopened P-type)) (said-from Device (ask 100) ∷ said-from Host ok ∷ []) ≡ some P-type
   -- the reasons
   pub judges : (protocol-rules (unopened P-type) .judge P-type (read ok) ≡ forbidden 1 none)
       × (protocol-rules (unopened P-type) .judge P-type (read ask-flag) ≡ forbidden 2 none)
@@ -250,3 +250,17 @@ pub record TypesAllow : Type 0 where
       × (dual-type (dual-type P-type) ≡ P-type)
       × (dual-type (choice sending (or-branch "A" X (one-branch "B" stop))) ≡ choice receiving (or-branch "A" X (one-branch "B" stop)))
   pub other-side : (flip (said-from Device ok) ≡ said-from Host ok) × (flip (said-from Host ok) ≡ said-from Device ok)
+
+-- Definition 9 of source document 001 at P: hear the device and tell the host, hear the host and tell the device, and come to a verdict on whoever
+-- says something else
+pub record MonitorMade : Type 0 where
+  pub of-P : synth P-type
+      ≡ mu (as-name "X")
+      (hear Device
+      (more (label-of (as-name "Ask"))
+      (test (ranging int (plus 0) (plus 100) ∷ []) it
+      (tell Host (label-of (as-name "Ask")) it
+      (hear Host
+      (one (label-of (as-name "Ok")) (test [] it (tell Device (label-of (as-name "Ok")) it (name (as-name "X"))) (verdict Host)))))
+      (verdict Device))
+      (one (label-of (as-name "Quit")) (test [] it (tell Host (label-of (as-name "Quit")) it done) (verdict Device)))))

@@ -12,7 +12,7 @@ use Rattle.grammar.specs.Grammar.{sending, receiving, int, Ty, stop, var, loop,
 use Rattle.spelling.specs.Spelling.{Spelt}
 use Rattle.grammar.specs.Kind as K
 
-abbrev as-name : String → ℕ
+abbrev pub as-name : String → ℕ
 as-name x = word-of (ascii x)
 
 abbrev pub plus : ℕ → Signed

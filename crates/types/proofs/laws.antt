@@ -7,7 +7,6 @@ pub mod Front
 pub mod Headline
 pub mod Monitor
 pub mod Numbering
-pub mod ProtocolP
 pub mod ProtocolRules
 pub mod StandsFor
 pub mod TextRules

@@ -1,6 +1,6 @@
 -- The examples, computed. Printed by `tests/pins --proofs GrammarExamples`. Assumes nothing.
 use mathlib.Core.Path.{refl}
-use Rattle.examples.specs.GrammarExamples.{TreesPrinted, TreesMean, TreesAsked, TypesAllow}
+use Rattle.examples.specs.GrammarExamples.{TreesPrinted, TreesMean, TreesAsked, TypesAllow, MonitorMade}
 use Rattle.grammar.specs.Grammar as GrammarGrammar
 use Rattle.grammar.specs.Number as GrammarNumber
 use Rattle.grammar.specs.TokOf as GrammarTokOf
@@ -71,6 +71,7 @@ types-allow =
     record {
       completes = (refl, refl, refl);
       forbids = (refl, refl, refl);
+      leads-back = refl;
       judges = (refl, refl, refl, refl);
       sorts-of = (refl, refl, refl);
       editions-of = (refl, refl);
@@ -78,4 +79,11 @@ types-allow =
       outer-again = (refl, refl);
       duals = (refl, refl, refl);
       other-side = (refl, refl);
+    }
+
+pub monitor-made : MonitorMade
+unfolding GrammarToken.packed GrammarToken.word-of TableView.label-of
+monitor-made =
+    record {
+      of-P = refl;
     }

@@ -1,13 +1,12 @@
 -- A text has one syntax: the tokens of a type are no beginning of another's, and those of a protocol are of no other.
 -- Assumes nothing.
-use mathlib.Core.Path.{_≡_, refl, sym, ap, ap₂, _∙_}
+use mathlib.Core.Path.{_≡_, refl, sym, ap, ap₂}
 use mathlib.Core.List.{List, [], _∷_}
 use mathlib.Core.Option.{Option, none, some}
 use Prim.Native.Nat.{ℕ}
 use native.Mathlib.Omega.{arith}
 use Rattle.grammar.specs.Number.{Signed}
 use Rattle.grammar.specs.Grammar.{sending, receiving, Kind, int, text, flag, SyntaxField, Share, Ty, stop, var, loop, choice, Br, last, also, Protocol, Tok, word, number, sign, letter, print-field, print-more, print-fields, print-share, print-head, print, print-br, print-opening, print-text}
-use Rattle.grammar.specs.inner.Writes.{Writes}
 use Rattle.grammar.proofs.laws.RunTokens.{first-is, rest-is}
 use Rattle.grammar.proofs.laws.TokOf.{tok-tag, word-in-is, number-in, sign-in}
 
@@ -158,6 +157,3 @@ text-once p r e =
     let a = opening-once (p .opening) (r .opening) (p .type) (r .type) (sign 0 ∷ []) (sign 0 ∷ []) e in
     let b = print-once (p .type) (r .type) (sign 0 ∷ []) (sign 0 ∷ []) (a .1) in
     λ i. record { opening = a .0 i; type = b .0 i }
-
-pub syntax-unique : (s : List ℕ) (p r : Protocol) → Writes s p → Writes s r → p ≡ r
-syntax-unique s p r v w = text-once p r (sym (v .written) ∙ w .written)

@@ -18,7 +18,6 @@ use Rattle.grammar.specs.inner.Scanner.{token-at, tokens}
 use Rattle.grammar.specs.Grammar.{or-else}
 use Rattle.grammar.specs.Number.{signed-in, in-count}
 use Rattle.grammar.specs.Building.{stateless, set-edition, empty-branch, labelled, aimed, add-state, add-branch, add-share, label-used, choice-right, came, denied, Built}
-use Rattle.grammar.specs.Filled.{written}
 use Rattle.grammar.specs.Reading.{Item, edition, just, name, label, type, more, fields, dot, Open, a-rec, a-choice, State, state, meaning, unguarded, closed, token-formed, grammar-allows, edition-known, is-found, name-bound, guarded, ranged, share-ranged, new-label, within-limits, shares-add, sign-of, choice-sort, a-branch, stored, taken, run-tokens, start, built, reads, questions}
 use Rattle.text.specs.inner.Recursive.{count-read, count-from, edition-at, opening-from, opening-of, label-from, name-read, unexpected-at, expect-at, fields-at, shared-at, empty-env, Room, bound-in, bind-in, find-in, find, since-in, since, rec-named, open-rec, label-at, branch-of, then-read, with-fields, with-count, body-at, headed, head-at, last-aimed, aim-last, name-used, name-type, end-type, open-choice, unless, end-of-branch, branch-then, branches-read, choice-type, rec-type, read-type, end-of-text, read-text, Env}
 use Rattle.grammar.specs.declared.token.Token.{Token}
@@ -487,7 +486,3 @@ answered-text s = go (ltb 8192 (length s)) refl
     go : (x : Bool) → ltb 8192 (length s) ≡ x → built s ≡ cond x (denied 1 0) (unless (opening-of s) (from-type s))
     go true h = rw (lt-leb (length s) 8192 (ltb-true _ _ h))
     go false h = rw (le-leb (length s) 8192 (ltb-false _ _ h)) (from-start s start ∙ outset-whole s)
-
-pub reads-text : (s : List ℕ) → reads s ≡ written (read-text s)
-unfolding reads
-reads-text s = ap written (answered-text s)
