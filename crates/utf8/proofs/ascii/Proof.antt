@@ -7,23 +7,23 @@ use Rattle.utf8.proofs.laws.Characters.{ascii_none, ascii_on, ascii_to}
 use Rattle.utf8.proofs.ascii.Statement.{statement}
 use Rattle.utf8.proofs.ascii.Tie as tie
 
-abbrev invariant-loop : tie.invariant-loop
+abbrev invariant-loop : tie.invariant-loop-i
 invariant-loop bytes from i₀ i = Ascii bytes from i
 
-abbrev decreases-loop : tie.decreases-loop
+abbrev decreases-loop : tie.decreases-loop-i
 decreases-loop bytes from i₀ i = length bytes - i
 
-loop-holds : tie.Need-loop-init invariant-loop decreases-loop
+loop-holds : tie.Need-loop-i-init invariant-loop decreases-loop
 loop-holds c = ascii_none _ _ c.before.requires
 
-returns : tie.Need-returns invariant-loop decreases-loop
-returns c = ascii_to c.before.before.before.before.loop.invariant c.letters.ensures
+returns : tie.Need-returns-then-high-ne0 invariant-loop decreases-loop
+returns c = ascii_to c.before.before.before.before.loop-i.invariant c.letters.ensures
 
-loop-again : tie.Need-loop-preserved invariant-loop decreases-loop
-loop-again c = ascii_on c.before.before.before.loop.invariant (c.before.high.ensures c.if1.false)
+loop-again : tie.Need-loop-i-preserved invariant-loop decreases-loop
+loop-again c = ascii_on c.before.before.before.loop-i.invariant (c.before.high.ensures c.if-high-ne0.false)
 
-returns-2 : tie.Need-returns-2 invariant-loop decreases-loop
-returns-2 c = ascii_to c.before.before.loop.invariant c.letters2.ensures
+returns-2 : tie.Need-returns invariant-loop decreases-loop
+returns-2 c = ascii_to c.before.before.loop-i.invariant c.letters-2.ensures
 
 pub ascii_spec : {M : Type 1} → statement M
 ascii_spec =
@@ -34,10 +34,10 @@ ascii_spec =
     loop-holds
     (λ c. search rules)
     (λ c κs. search rules)
-    (λ c κs. c.before.before.before.loop.invariant.inside)
+    (λ c κs. c.before.before.before.loop-i.invariant.inside)
     returns
     (λ c. search rules)
     (λ c. search rules)
     loop-again
-    (λ c κs. c.before.loop.invariant.inside)
+    (λ c κs. c.before.loop-i.invariant.inside)
     returns-2)

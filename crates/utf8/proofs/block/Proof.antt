@@ -17,9 +17,9 @@ returns c e =
     let g = neither_bits _ _ n.1 in
     ascii_more b i (i + 24) (i + 32) (omega arith)
     (ascii_more b i (i + 16) (i + 24) (omega arith)
-    (ascii_more b i (i + 8) (i + 16) (omega arith) (c.before.before.before.high.ensures f.0) (c.before.before.high2.ensures f.1))
-    (c.before.high3.ensures g.0))
-    (c.high4.ensures g.1)
+    (ascii_more b i (i + 8) (i + 16) (omega arith) (c.before.before.before.high.ensures f.0) (c.before.before.high-2.ensures f.1))
+    (c.before.high-3.ensures g.0))
+    (c.high-4.ensures g.1)
 
 pub block_spec : {M : Type 1} → statement M
 block_spec =
