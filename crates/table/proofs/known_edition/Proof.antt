@@ -4,13 +4,13 @@ use Rattle.table.specs.Table.{known_edition}
 use Rattle.table.proofs.known_edition.Statement.{statement}
 use Rattle.table.proofs.known_edition.Tie as tie
 
-returns : tie.Need-returns
+returns : tie.Need-returns-then-edition-eq1
 unfolding known_edition
-returns c = sym (ap (λ b. b || eqb c.before.args.edition 2) (eq-eqb _ 1 c.if1.true))
+returns c = sym (ap (λ b. b || eqb c.before.args.edition 2) (eq-eqb _ 1 c.if-edition-eq1.true))
 
-returns-2 : tie.Need-returns-2
+returns-2 : tie.Need-returns
 unfolding known_edition
-returns-2 c = sym (ap (λ b. b || eqb c.before.args.edition 2) (ne_eqb _ 1 c.if1.false))
+returns-2 c = sym (ap (λ b. b || eqb c.before.args.edition 2) (ne_eqb _ 1 c.if-edition-eq1.false))
 
 pub known_edition_spec : {M : Type 1} → statement M
 known_edition_spec = tie.close (tie.spec returns returns-2)

@@ -4,7 +4,7 @@
 use mathlib.Core.Path.{◌≡◌, refl, sym, ap, subst, ◌∙◌}
 use mathlib.Core.Bool.{Bool, true, false, not, ◌&&◌, cond, true≢false, false≢true}
 use mathlib.Core.Logic.{◌⊎◌, inl, inr}
-use mathlib.Core.List.{List, ◌∷◌}
+use mathlib.Core.List.{List, [], ◌∷◌}
 use Prim.Native.Nat.{ℕ, zero, suc}
 use native.Mathlib.Omega.{arith}
 use lib.Dec.{eqb}
@@ -197,6 +197,7 @@ unguarded_diverges t e = let f = fault t e in fault_reached f.0 f.1
 -- no test has the number
 other_number : (q : ℕ) (ts : List (ℕ × Bool)) → every (λ t. not (eqb q t.0)) ts ≡ true → FailsBy q ts → ⊥
 unfolding every
+other_number q [] e x = elim x [ ]
 other_number q (t ∷ ts) e (inl x) = never (eq-eqb q t.0 x.0) (not-true (eqb q t.0) (both (not (eqb q t.0)) (every (λ t. not (eqb q t.0)) ts) e).0)
 other_number q (t ∷ ts) e (inr f) = other_number q ts (both (not (eqb q t.0)) (every (λ t. not (eqb q t.0)) ts) e).1 f
 

@@ -229,28 +229,43 @@ still t K vs ws e f k = subst (λ vs. Course t K vs ws) (sym e) (f, k)
 
 run_done : {vs ws : List Said} {K : Mon} → Runs done vs ws K → (vs ≡ []) × (ws ≡ []) × (done ≡ K)
 run_done rest = (refl, refl, refl)
+run_done (alone x _) = elim x [ ]
+run_done (on_hearing x _) = elim x [ ]
+run_done (on_telling x _) = elim x [ ]
 
 run_name : {x : ℕ} {vs ws : List Said} {K : Mon} → Runs (name x) vs ws K → (vs ≡ []) × (ws ≡ []) × (name x ≡ K)
 run_name rest = (refl, refl, refl)
+run_name (alone x _) = elim x [ ]
+run_name (on_hearing x _) = elim x [ ]
+run_name (on_telling x _) = elim x [ ]
 
 run_verdict : {q : Party} {vs ws : List Said} {K : Mon} → Runs (verdict q) vs ws K → (vs ≡ []) × (ws ≡ []) × (verdict q ≡ K)
 run_verdict rest = (refl, refl, refl)
+run_verdict (alone x _) = elim x [ ]
+run_verdict (on_hearing x _) = elim x [ ]
+run_verdict (on_telling x _) = elim x [ ]
 
 run_mu : {x : ℕ} {M : Mon} {vs ws : List Said} {K : Mon} → Runs (mu x M) vs ws K
     → ((vs ≡ []) × (ws ≡ []) × Unrolling K) ⊎ Runs (replace M x (mu x M)) vs ws K
 run_mu rest = inl (refl, refl, tt)
 run_mu (alone unfolding_rec r) = inr r
+run_mu (on_hearing x _) = elim x [ ]
+run_mu (on_telling x _) = elim x [ ]
 
 run_test : {fs : List SyntaxField} {v : List Value} {M N : Mon} {vs ws : List Said} {K : Mon} → Runs (test fs (the v) M N) vs ws K
     → ((vs ≡ []) × (ws ≡ []) × Midway K) ⊎ (((hold fs v ≡ true) × Runs M vs ws K) ⊎ ((hold fs v ≡ false) × Runs N vs ws K))
 run_test rest = inl (refl, refl, tt)
 run_test (alone (passing h) r) = inr (inl (h, r))
 run_test (alone (failing h) r) = inr (inr (h, r))
+run_test (on_hearing x _) = elim x [ ]
+run_test (on_telling x _) = elim x [ ]
 
 run_tell : {q : Party} {l : List ℕ} {v : List Value} {M : Mon} {vs ws : List Said} {K : Mon} → Runs (tell q l (the v) M) vs ws K
     → ((vs ≡ []) × (ws ≡ []) × Midway K) ⊎ ((bs : List Said) × (ws ≡ said q (record { label = l; values = v }) ∷ bs) × Runs M vs bs K)
 run_tell rest = inl (refl, refl, tt)
 run_tell (on_telling {told = bs} telling r) = inr (bs, refl, r)
+run_tell (alone x _) = elim x [ ]
+run_tell (on_hearing x _) = elim x [ ]
 
 -- a choice: what is heard first, and what comes of it
 module _ (w : Way) (bs : Br) (p : Proper (choice w bs)) where
@@ -294,6 +309,8 @@ module _ (w : Way) (bs : Br) (p : Proper (choice w bs)) where
   course_choice (on_hearing {K = K} {heard = vs} {told = ws} {m = m} (hearing {M = M} h) r) = course_arm m vs ws K M (arm_has bs q h) r
   course_choice (on_hearing {K = K} {heard = vs} {told = ws} {m = m} (violating h) r) =
       breaks_off m vs ws K (not_spelt bs m (sym (expects_label bs q m.label) ∙ h)) (run_verdict r)
+  course_choice (alone x _) = elim x [ ]
+  course_choice (on_telling x _) = elim x [ ]
 
 course_at : (t : Ty) {vs ws : List Said} {K : Mon} → Proper t → is_loop t ≡ false → Runs (synth t) vs ws K → Course t K vs ws
 course_at stop {vs} {ws} {K} p l r = let x = run_done r in still stop K vs ws x.0 x.1 (subst (λ K. Still K stop) x.2 refl)

@@ -22,7 +22,7 @@ returns : tie.Need-returns-then-not-block invariant-loop decreases-loop
 returns c = c.before.before.before.loop-i.invariant
 
 loop-again : tie.Need-loop-i-preserved invariant-loop decreases-loop
-loop-again c = ascii_on c.before.before.before.loop-i.invariant (c.before.block.ensures (not-false _ c.if-not-block.false))
+loop-again c = ascii_on c.before.before.before.loop-i.invariant (c.before.block.ensures (c.if-not-block.false))
 
 returns-2 : tie.Need-returns invariant-loop decreases-loop
 returns-2 c = c.before.loop-i.invariant

@@ -12,57 +12,57 @@ use Rattle.table.proofs.laws.View.{in_place_parts, in_order_parts, in_order_by, 
 use Rattle.table.proofs.branches.few.Statement.{statement}
 use Rattle.table.proofs.branches.few.Tie as tie
 
-abbrev invariant-loop : tie.invariant-loop
+abbrev invariant-loop : tie.invariant-loop-k
 invariant-loop t n m set₀ shares₀ k₀ set shares k =
     (k ≤ n) × (n ≤ 128) × (m ≤ 32) × (true ≡ all k (in_order t m)) × Members t k set × Unshared t k shares × ((i : ℕ) → i < k → Word (word_at t i))
 
-abbrev decreases-loop : tie.decreases-loop
+abbrev decreases-loop : tie.decreases-loop-k
 decreases-loop t n m set₀ shares₀ k₀ set shares k = n - k
 
-loop-holds : tie.Need-loop-init invariant-loop decreases-loop
+loop-holds : tie.Need-loop-k-init invariant-loop decreases-loop
 unfolding all
 loop-holds c = (search rules, search rules, search rules, refl, members_none _, refl, λ i l. absurd (not-suc-le-zero l))
 
-returns : tie.Need-returns invariant-loop decreases-loop
+returns : tie.Need-returns-then-not-in_place invariant-loop decreases-loop
 returns c =
-    stopped _ _ _ _ c.wrong.ensures c.before.before.before.before.loop.k (omega arith)
-    (λ e. never (in_order_parts _ _ _ e).0 (sym c.before.before.in_place.ensures ∙ not-true _ c.before.if1.true))
+    stopped _ _ _ _ c.wrong.ensures c.before.before.before.before.loop-k.k (omega arith)
+    (λ e. never (in_order_parts _ _ _ e).0 (sym c.before.before.in_place.ensures ∙ c.before.if-not-in_place.true))
 
-returns-2 : tie.Need-returns-2 invariant-loop decreases-loop
+returns-2 : tie.Need-returns-then-not-label_legal invariant-loop decreases-loop
 returns-2 c =
-    stopped _ _ _ _ c.wrong2.ensures c.before.before.before.before.before.before.before.loop.k (omega arith)
+    stopped _ _ _ _ c.wrong-then-not-label_legal.ensures c.before.before.before.before.before.before.before.loop-k.k (omega arith)
     (λ e. never (in_order_parts _ _ _ e).1
-    (ap (λ w. legal_label (label_of w)) (sym c.before.before.before.label.ensures.0) ∙ sym c.before.before.label_legal.ensures ∙ not-true _ c.before.if2.true))
+    (ap (λ w. legal_label (label_of w)) (sym c.before.before.before.label.ensures.0) ∙ sym c.before.before.label_legal.ensures ∙ c.before.if-not-label_legal.true))
 
-returns-3 : tie.Need-returns-3 invariant-loop decreases-loop
+returns-3 : tie.Need-returns-then-not-is_alone invariant-loop decreases-loop
 returns-3 c =
-    stopped _ _ _ _ c.wrong3.ensures c.before.before.before.before.before.before.before.before.before.loop.k (omega arith)
-    (λ e. never (in_order_parts _ _ _ e).2 (sym c.before.before.is-alone.ensures ∙ not-true _ c.before.if3.true))
+    stopped _ _ _ _ c.wrong-then-not-is_alone.ensures c.before.before.before.before.before.before.before.before.before.loop-k.k (omega arith)
+    (λ e. never (in_order_parts _ _ _ e).2 (sym c.before.before.is_alone.ensures ∙ c.before.if-not-is_alone.true))
 
-loop-again : tie.Need-loop-preserved invariant-loop decreases-loop
+loop-again : tie.Need-loop-k-preserved invariant-loop decreases-loop
 loop-again c =
-    let j = c.before.before.before.before.before.before.before.before.before.before.before.loop.k in
-    let i = c.before.before.before.before.before.before.before.before.before.before.before.loop.invariant in
+    let j = c.before.before.before.before.before.before.before.before.before.before.before.loop-k.k in
+    let i = c.before.before.before.before.before.before.before.before.before.before.before.loop-k.invariant in
     let l = c.before.before.before.before.before.before.before.label.ensures.0 in
-    let p = sym c.before.before.before.before.before.before.before.before.before.in_place.ensures ∙ not-false _ c.before.before.before.before.before.before.before.before.if1.false in
-    let q = ap (λ w. legal_label (label_of w)) (sym l) ∙ sym c.before.before.before.before.before.before.label_legal.ensures ∙ not-false _ c.before.before.before.before.before.if2.false in
-    let r = sym c.before.before.before.before.is-alone.ensures ∙ not-false _ c.before.before.before.if3.false in (
+    let p = sym c.before.before.before.before.before.before.before.before.before.in_place.ensures ∙ c.before.before.before.before.before.before.before.before.if-not-in_place.false in
+    let q = ap (λ w. legal_label (label_of w)) (sym l) ∙ sym c.before.before.before.before.before.before.label_legal.ensures ∙ c.before.before.before.before.before.if-not-label_legal.false in
+    let r = sym c.before.before.before.before.is_alone.ensures ∙ c.before.before.before.if-not-is_alone.false in (
       search rules,
       search rules,
       search rules,
       all_yes _ j i.3 (in_order_by _ _ _ p q r),
-      members_more _ _ _ _ i.4 (with_below (omega (arith, (in_place_parts _ _ _ p).0, i.2)) c.before.with.ensures),
-      none_more c.before.before.before.before.before.before.before.before.before.before.before.before.args.t.now j c.before.before.before.before.before.before.before.before.before.before.before.loop.shares i.5,
+      members_more _ _ _ _ i.4 (with_below (omega (arith, (in_place_parts _ _ _ p).0, i.2)) c.before.with-set.ensures),
+      none_more c.before.before.before.before.before.before.before.before.before.before.before.before.args.t.now j c.before.before.before.before.before.before.before.before.before.before.before.loop-k.shares-1 i.5,
       below_more _ _ i.6 (subst Word l c.before.before.before.before.before.before.before.label.ensures.1),
     )
 
-returns-4 : tie.Need-returns-4 invariant-loop decreases-loop
+returns-4 : tie.Need-returns invariant-loop decreases-loop
 returns-4 c =
-    let i = c.before.loop.invariant in
+    let i = c.before.loop-k.invariant in
     record {
-      tells = all_end _ c.before.loop.k _ i.3 (omega arith);
+      tells = all_end _ c.before.loop-k.k _ i.3 (omega arith);
       owners = λ e. members_end i.4 (omega arith);
-      shares = λ e. all_end _ c.before.loop.k _ i.5 (omega arith);
+      shares = λ e. all_end _ c.before.loop-k.k _ i.5 (omega arith);
       words = λ e k l. i.6 k (omega arith);
     }
 

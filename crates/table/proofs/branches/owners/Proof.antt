@@ -5,21 +5,21 @@ use Rattle.table.proofs.laws.View.{passed_places, stopped_label, stopped_twin}
 use Rattle.table.proofs.branches.owners.Statement.{statement}
 use Rattle.table.proofs.branches.owners.Tie as tie
 
-returns : tie.Need-returns
+returns : tie.Need-returns-then-n-le8
 returns c = c.few.ensures
 
-returns-2 : tie.Need-returns-2
-returns-2 c = stopped_label _ _ _ _ c.wrong.ensures (sym c.before.before.all_legal.ensures.0 ∙ not-true _ c.before.if2.true)
+returns-2 : tie.Need-returns-then-not-all_legal
+returns-2 c = stopped_label _ _ _ _ c.wrong.ensures (sym c.before.before.all_legal.ensures.0 ∙ c.before.if-not-all_legal.true)
 
-returns-3 : tie.Need-returns-3
-returns-3 c = stopped_twin _ _ _ _ c.wrong2.ensures (sym c.before.before.All-apart.ensures ∙ not-true _ c.before.if3.true)
+returns-3 : tie.Need-returns-then-not-all_apart
+returns-3 c = stopped_twin _ _ _ _ c.wrong-then-not-all_apart.ensures (sym c.before.before.All-apart.ensures ∙ c.before.if-not-all_apart.true)
 
-returns-4 : tie.Need-returns-4
+returns-4 : tie.Need-returns
 returns-4 c =
     record {
       tells = passed_places _ _ _ c.places.ensures.0
-          (sym c.before.before.before.before.all_legal.ensures.0 ∙ not-false _ c.before.before.before.if2.false)
-          (sym c.before.before.All-apart.ensures ∙ not-false _ c.before.if3.false);
+          (sym c.before.before.before.before.all_legal.ensures.0 ∙ c.before.before.before.if-not-all_legal.false)
+          (sym c.before.before.All-apart.ensures ∙ c.before.if-not-all_apart.false);
       owners = c.places.ensures.1;
       shares = c.places.ensures.2;
       words = λ e. c.before.before.before.before.all_legal.ensures.1;

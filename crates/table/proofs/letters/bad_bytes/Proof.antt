@@ -7,11 +7,11 @@ use Rattle.table.proofs.letters.bad_bytes.Tie as tie
 returns : tie.Need-returns
 returns c =
     label_word _ _ _ _ _ _ (record {
-      a_is = c.before.before.before.before.wrapping-add-u64.ensures;
-      b_is = c.before.before.before.wrapping-add-u642.ensures;
-      d_is = c.before.before.wrapping-add-u643.ensures;
-      e_is = c.before.wrapping-add-u644.ensures;
-      s_is = c.wrapping-add-u645.ensures;
+      a_is = c.before.before.before.before.wrapping_add_u64.ensures;
+      b_is = c.before.before.before.wrapping_add_u64-2.ensures;
+      d_is = c.before.before.wrapping_add_u64-3.ensures;
+      e_is = c.before.wrapping_add_u64-4.ensures;
+      s_is = c.wrapping_add_u64-some.ensures;
     })
 
 pub bad_bytes_spec : {M : Type 1} → statement M

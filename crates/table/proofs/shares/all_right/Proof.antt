@@ -6,29 +6,29 @@ use Rattle.table.proofs.laws.SharesRight.{empty_sum, full_sum, wrong_sum}
 use Rattle.table.proofs.shares.all_right.Statement.{statement}
 use Rattle.table.proofs.shares.all_right.Tie as tie
 
-abbrev invariant-loop : tie.invariant-loop
+abbrev invariant-loop : tie.invariant-loop-i
 invariant-loop sums m i₀ i = (i ≤ m) × (m ≤ 32) × (true ≡ all i (λ i. right_sum (get_or sums i 0)))
 
-abbrev decreases-loop : tie.decreases-loop
+abbrev decreases-loop : tie.decreases-loop-i
 decreases-loop sums m i₀ i = m - i
 
-loop-holds : tie.Need-loop-init invariant-loop decreases-loop
+loop-holds : tie.Need-loop-i-init invariant-loop decreases-loop
 unfolding all
 loop-holds c = (search rules, search rules, refl)
 
-returns : tie.Need-returns invariant-loop decreases-loop
+returns : tie.Need-returns-then-sum-ne1000 invariant-loop decreases-loop
 returns c =
-    sym (all_no _ _ c.before.before.before.before.loop.i (omega arith) (wrong_sum _ c.before.if1.true c.if2.true))
+    sym (all_no _ _ c.before.before.before.before.loop-i.i (omega arith) (wrong_sum _ c.before.if-sum-ne0.true c.if-sum-ne1000.true))
 
-loop-again : tie.Need-loop-preserved invariant-loop decreases-loop
+loop-again : tie.Need-loop-i-preserved invariant-loop decreases-loop
 loop-again c = (
   search rules,
   search rules,
-  all_yes _ c.before.before.before.loop.i c.before.before.before.loop.invariant.2 (⊎_elim (λ h. full_sum _ h.1.left) (λ h. empty_sum _ h.left) c.if1.branch),
+  all_yes _ c.before.before.before.loop-i.i c.before.before.before.loop-i.invariant.2 (⊎_elim (λ h. full_sum _ h.1.left) (λ h. empty_sum _ h.left) c.if-sum-ne0.branch),
 )
 
-returns-2 : tie.Need-returns-2 invariant-loop decreases-loop
-returns-2 c = all_end _ c.before.loop.i _ c.before.loop.invariant.2 (omega arith)
+returns-2 : tie.Need-returns invariant-loop decreases-loop
+returns-2 c = all_end _ c.before.loop-i.i _ c.before.loop-i.invariant.2 (omega arith)
 
 pub all_right_spec : {M : Type 1} → statement M
 all_right_spec =

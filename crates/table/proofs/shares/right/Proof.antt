@@ -8,52 +8,52 @@ use Rattle.table.proofs.laws.SharesRight.{share_most, owner_small, Summed, summe
 use Rattle.table.proofs.shares.right.Statement.{statement}
 use Rattle.table.proofs.shares.right.Tie as tie
 
-abbrev invariant-loop : tie.invariant-loop
+abbrev invariant-loop : tie.invariant-loop-k
 invariant-loop t n m sums₀ k₀ sums k = (k ≤ n) × Owned t n m × Summed t sums k
 
-abbrev decreases-loop : tie.decreases-loop
+abbrev decreases-loop : tie.decreases-loop-k
 decreases-loop t n m sums₀ k₀ sums k = n - k
 
-loop-holds : tie.Need-loop-init invariant-loop decreases-loop
+loop-holds : tie.Need-loop-k-init invariant-loop decreases-loop
 loop-holds c = (search rules, search rules, summed_none _)
 
-returns : tie.Need-returns invariant-loop decreases-loop
+returns : tie.Need-returns-then-share-gt1000 invariant-loop decreases-loop
 returns c =
-    let k = c.before.before.before.loop.k in
+    let k = c.before.before.before.loop-k.k in
     let w = share_at c.before.before.before.before.args.t.now k in
-    sym (refuted _ (λ e. never (share_most _ _ c.before.before.before.loop.invariant.1 e k (omega arith)) (lt-leb w 1000 (omega (arith, c.if1.true)))))
+    sym (refuted _ (λ e. never (share_most _ _ c.before.before.before.loop-k.invariant.1 e k (omega arith)) (lt-leb w 1000 (omega (arith, c.if-share-gt1000.true)))))
 
-state : (c : tie.After-i invariant-loop decreases-loop) → owner_at c.before.before.before.before.before.args.t.now c.before.before.before.before.loop.k < 32
-state c = owner_small _ _ _ _ c.before.before.before.before.loop.invariant.1 (omega arith)
+state : (c : tie.After-i-1 invariant-loop decreases-loop) → owner_at c.before.before.before.before.before.args.t.now c.before.before.before.before.loop-k.k < 32
+state c = owner_small _ _ _ _ c.before.before.before.before.loop-k.invariant.1 (omega arith)
 
-cast-i : tie.Need-overflow-cast-i invariant-loop decreases-loop
+cast-i : tie.Need-overflow_cast-i invariant-loop decreases-loop
 cast-i c = omega (arith, state c)
 
-mul-sums : tie.Need-overflow-mul-sums invariant-loop decreases-loop
+mul-sums : tie.Need-offset_bounds-sums-i invariant-loop decreases-loop
 mul-sums c = omega (arith, state c)
 
-array-read-sums : tie.Need-array-read-sums invariant-loop decreases-loop
+array-read-sums : tie.Need-bounds-sums-i invariant-loop decreases-loop
 array-read-sums c = state c
 
-add-sums : tie.Need-overflow-add-sums invariant-loop decreases-loop
-add-sums c = omega (arith, sum_most _ _ _ c.before.before.before.before.before.loop.invariant.2 _ (state c.before), c.weight.ensures.1, c.before.before.before.before.before.loop.invariant.1.room)
+add-sums : tie.Need-overflow_add-sums invariant-loop decreases-loop
+add-sums c = omega (arith, sum_most _ _ _ c.before.before.before.before.before.loop-k.invariant.2 _ (state c.before), c.weight.ensures.1, c.before.before.before.before.before.loop-k.invariant.1.room)
 
-mul-sums-2 : tie.Need-overflow-mul-sums-2 invariant-loop decreases-loop
+mul-sums-2 : tie.Need-offset_bounds-sums-i-in-loop-k invariant-loop decreases-loop
 mul-sums-2 c = omega (arith, state c.before)
 
-array-write-sums : tie.Need-array-write-sums invariant-loop decreases-loop
+array-write-sums : tie.Need-bounds-sums-i-in-loop-k invariant-loop decreases-loop
 array-write-sums c = state c.before
 
-loop-again : tie.Need-loop-preserved invariant-loop decreases-loop
+loop-again : tie.Need-loop-k-preserved invariant-loop decreases-loop
 loop-again c =
-    let i = c.before.before.before.before.before.loop.invariant in
-    (search rules, search rules, summed_more _ _ _ i.2 c.before.before.if1.false (state c.before) _ c.weight.ensures.0)
+    let i = c.before.before.before.before.before.loop-k.invariant in
+    (search rules, search rules, summed_more _ _ _ i.2 c.before.before.if-share-gt1000.false (state c.before) _ c.weight.ensures.0)
 
-all-right-requires : tie.Need-all-right-requires invariant-loop decreases-loop
-all-right-requires c κs = omega (arith, c.before.before.loop.invariant.1.few, c.before.before.loop.invariant.1.states)
+all-right-requires : tie.Need-all_right-requires invariant-loop decreases-loop
+all-right-requires c κs = omega (arith, c.before.before.loop-k.invariant.1.few, c.before.before.loop-k.invariant.1.states)
 
-returns-2 : tie.Need-returns-2 invariant-loop decreases-loop
-returns-2 c = summed_all _ _ _ c.before.before.before.loop.invariant.2 _ _ c.before.before.before.loop.invariant.1 (omega arith) c.all_right.ensures
+returns-2 : tie.Need-returns invariant-loop decreases-loop
+returns-2 c = summed_all _ _ _ c.before.before.before.loop-k.invariant.2 _ _ c.before.before.before.loop-k.invariant.1 (omega arith) c.all_right.ensures
 
 pub right_spec : {M : Type 1} → statement M
 right_spec =
