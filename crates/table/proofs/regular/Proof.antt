@@ -19,18 +19,18 @@ returns-3 : tie.Need-returns-then-n-gt128
 returns-3 c = not_regular _ (λ f. omega (arith, f.room, c.if-n-gt128.true))
 
 returns-4 : tie.Need-returns-then-not-choices
-returns-4 c = not_regular _ (λ f. never (codes_all _ f) (sym c.before.before.choices-choices.ensures.0 ∙ c.if-not-choices.true))
+returns-4 c = not_regular _ (λ f. never (codes_all _ f) (sym c.before.before.choices-choices.ensures.0 ∙ not-true _ c.if-not-choices.true))
 
 returns-5 : tie.Need-returns-then-not-owners
-returns-5 c = not_regular _ (λ f. never (order_all _ f) (sym c.before.before.owners-owners.ensures.tells ∙ c.if-not-owners.true))
+returns-5 c = not_regular _ (λ f. never (order_all _ f) (sym c.before.before.owners-owners.ensures.tells ∙ not-true _ c.if-not-owners.true))
 
 -- the sets and the shares are left
 settled : (c : tie.Else-not-owners) → regular_of c.before.before.before.before.before.before.before.before.before.before.before.args.t.now
     ≡ (eqb c.before.before.owners-owners.result.set c.before.before.before.before.before.choices-choices.result.set && shares_kept (view c.before.before.before.before.before.before.before.before.before.before.before.args.t.now))
 settled c =
-    let ok = c.before.before.before.if-not-choices.false in
+    let ok = not-false _ c.before.before.before.if-not-choices.false in
     passed _ _ _ c.before.before.before.before.before.before.before.before.if-m-eq0.false c.before.before.before.before.before.before.before.if-m-gt32.false c.before.before.before.before.before.before.if-n-gt128.false
-    (sym c.before.before.before.before.before.choices-choices.ensures.0 ∙ ok) (c.before.before.before.before.before.choices-choices.ensures.1 ok) c.before.before.owners-owners.ensures (c.if-not-owners.false)
+    (sym c.before.before.before.before.before.choices-choices.ensures.0 ∙ ok) (c.before.before.before.before.before.choices-choices.ensures.1 ok) c.before.before.owners-owners.ensures (not-false _ c.if-not-owners.false)
 
 returns-6 : tie.Need-returns-then-owners-choices
 returns-6 c =
@@ -41,7 +41,7 @@ returns-6 c =
 returns-7 : tie.Need-returns-then-owners-eq0
 returns-7 c =
     sym (settled c.before.before.before.before.before ∙ left_passes _ (eq-eqb _ _ c.before.before.if-owners-choices.false)
-    ∙ none_kept _ _ refl _ (c.before.before.before.before.before.before.before.owners-owners.ensures.shares (c.before.before.before.before.before.if-not-owners.false)) c.if-owners-eq0.true)
+    ∙ none_kept _ _ refl _ (c.before.before.before.before.before.before.before.owners-owners.ensures.shares (not-false _ c.before.before.before.before.before.if-not-owners.false)) c.if-owners-eq0.true)
 
 right-requires : tie.Need-right-requires
 right-requires c κs =
@@ -50,7 +50,7 @@ right-requires c κs =
       states = search rules;
       room = search rules;
       few = search rules;
-      below = owners_below _ _ _ _ c.before.before.before.before.before.before.before.owners-owners.ensures (c.before.before.before.before.before.if-not-owners.false);
+      below = owners_below _ _ _ _ c.before.before.before.before.before.before.before.owners-owners.ensures (not-false _ c.before.before.before.before.before.if-not-owners.false);
     }
 
 returns-8 : tie.Need-returns

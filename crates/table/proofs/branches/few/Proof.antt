@@ -52,7 +52,7 @@ loop-again c =
       search rules,
       all_yes _ j i.3 (in_order_by _ _ _ p q r),
       members_more _ _ _ _ i.4 (with_below (omega (arith, (in_place_parts _ _ _ p).0, i.2)) c.before.with-set.ensures),
-      none_more c.before.before.before.before.before.before.before.before.before.before.before.before.args.t.now j c.before.before.before.before.before.before.before.before.before.before.before.loop-k.shares-1 i.5,
+      none_more c.before.before.before.before.before.before.before.before.before.before.before.before.args.t.now j c.before.before.before.before.before.before.before.before.before.before.before.loop-k.shares i.5,
       below_more _ _ i.6 (subst Word l c.before.before.before.before.before.before.before.label.ensures.1),
     )
 

@@ -12,14 +12,14 @@ returns-2 : tie.Need-returns-then-not-all_legal
 returns-2 c = stopped_label _ _ _ _ c.wrong.ensures (sym c.before.before.all_legal.ensures.0 ∙ c.before.if-not-all_legal.true)
 
 returns-3 : tie.Need-returns-then-not-all_apart
-returns-3 c = stopped_twin _ _ _ _ c.wrong-then-not-all_apart.ensures (sym c.before.before.All-apart.ensures ∙ c.before.if-not-all_apart.true)
+returns-3 c = stopped_twin _ _ _ _ c.wrong-then-not-all_apart.ensures (sym c.before.before.all_apart.ensures ∙ c.before.if-not-all_apart.true)
 
 returns-4 : tie.Need-returns
 returns-4 c =
     record {
       tells = passed_places _ _ _ c.places.ensures.0
           (sym c.before.before.before.before.all_legal.ensures.0 ∙ c.before.before.before.if-not-all_legal.false)
-          (sym c.before.before.All-apart.ensures ∙ c.before.if-not-all_apart.false);
+          (sym c.before.before.all_apart.ensures ∙ c.before.if-not-all_apart.false);
       owners = c.places.ensures.1;
       shares = c.places.ensures.2;
       words = λ e. c.before.before.before.before.all_legal.ensures.1;

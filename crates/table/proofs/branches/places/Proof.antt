@@ -40,7 +40,7 @@ loop-again c =
       search rules,
       all_yes _ k i.3 p,
       members_more _ _ _ _ i.4 (with_below (omega (arith, (in_place_parts _ _ _ p).0, i.2)) c.before.with-set.ensures),
-      none_more c.before.before.before.before.before.before.before.args.t.now k c.before.before.before.before.before.before.loop-k.shares-1 i.5,
+      none_more c.before.before.before.before.before.before.before.args.t.now k c.before.before.before.before.before.before.loop-k.shares i.5,
     )
 
 returns-2 : tie.Need-returns invariant-loop decreases-loop

@@ -1,8 +1,9 @@
 -- `table::shares::all_right` meets its contract. Assumes nothing.
-use Rattle.std.proofs.Common.{◌≡◌, ◌-◌, ◌≤◌, true, get_or, sym, refl, ⊎_elim, arith, rules}
+use Rattle.std.proofs.Common.{◌≡◌, ◌-◌, ◌≤◌, true, get_or, sym, refl, arith, rules}
 use Rattle.table.specs.inner.Scans.{all, right_sum}
 use Rattle.table.proofs.laws.Lists.{all_yes, all_no, all_end}
 use Rattle.table.proofs.laws.SharesRight.{empty_sum, full_sum, wrong_sum}
+use Rattle.table.proofs.shares.all_right.Lts.{then-sum-ne0+else-sum-ne1000, else-sum-ne0}
 use Rattle.table.proofs.shares.all_right.Statement.{statement}
 use Rattle.table.proofs.shares.all_right.Tie as tie
 
@@ -24,7 +25,8 @@ loop-again : tie.Need-loop-i-preserved invariant-loop decreases-loop
 loop-again c = (
   search rules,
   search rules,
-  all_yes _ c.before.before.before.loop-i.i c.before.before.before.loop-i.invariant.2 (⊎_elim (λ h. full_sum _ h.1.left) (λ h. empty_sum _ h.left) c.if-sum-ne0.branch),
+  all_yes _ c.before.before.before.loop-i.i c.before.before.before.loop-i.invariant.2
+  (elim c.if-sum-ne0.branch [ then-sum-ne0+else-sum-ne1000 w ↦ full_sum _ w.if-sum-ne1000.false | else-sum-ne0 w ↦ empty_sum _ w.if-sum-ne0.false ]),
 )
 
 returns-2 : tie.Need-returns invariant-loop decreases-loop

@@ -26,14 +26,17 @@ returns c =
 state : (c : tie.After-i-1 invariant-loop decreases-loop) → owner_at c.before.before.before.before.before.args.t.now c.before.before.before.before.loop-k.k < 32
 state c = owner_small _ _ _ _ c.before.before.before.before.loop-k.invariant.1 (omega arith)
 
+unread : (c : tie.After-i-1-unread invariant-loop decreases-loop) → owner_at c.before.before.before.before.before.args.t.now c.before.before.before.before.loop-k.k < 32
+unread c = owner_small _ _ _ _ c.before.before.before.before.loop-k.invariant.1 (omega arith)
+
 cast-i : tie.Need-overflow_cast-i invariant-loop decreases-loop
-cast-i c = omega (arith, state c)
+cast-i c = omega (arith, unread c)
 
 mul-sums : tie.Need-offset_bounds-sums-i invariant-loop decreases-loop
-mul-sums c = omega (arith, state c)
+mul-sums c = omega (arith, unread c)
 
 array-read-sums : tie.Need-bounds-sums-i invariant-loop decreases-loop
-array-read-sums c = state c
+array-read-sums c = unread c
 
 add-sums : tie.Need-overflow_add-sums invariant-loop decreases-loop
 add-sums c = omega (arith, sum_most _ _ _ c.before.before.before.before.before.loop-k.invariant.2 _ (state c.before), c.weight.ensures.1, c.before.before.before.before.before.loop-k.invariant.1.room)
