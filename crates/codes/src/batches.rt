@@ -10,7 +10,7 @@ use conversation::batch::Last;
 
 // Bytes used of what waits on each side, bytes written on each output, and the last answer. Its outcome is 3 where none was due.
 #[repr(C)]
-#[derive(Drop)]
+#[derive(Clone, Copy)]
 pub struct Batch {
     pub used_device: usize,
     pub used_host: usize,

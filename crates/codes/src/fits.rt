@@ -10,7 +10,7 @@ use message::High;
 // Outcome: 0 fits (count: pairs met), 1 fails (count: moves shown; high: the field that is high in the last, or 255), 2 refused
 // (question).
 #[repr(C)]
-#[derive(Drop)]
+#[derive(Clone, Copy)]
 pub struct Fit {
     pub outcome: u32,
     pub question: u32,

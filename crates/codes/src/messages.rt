@@ -8,7 +8,7 @@ use message::High;
 
 // What the front of some bytes tells: the number of the question that got a no, or 0, and the length that is announced.
 #[repr(C)]
-#[derive(Drop)]
+#[derive(Clone, Copy)]
 pub struct Head {
     pub question: u32,
     pub length: u32,
@@ -16,7 +16,7 @@ pub struct Head {
 
 // What making a message gives: the number of the question that got a no, or 0, and the message's length.
 #[repr(C)]
-#[derive(Drop)]
+#[derive(Clone, Copy)]
 pub struct Made {
     pub question: u32,
     pub length: u32,

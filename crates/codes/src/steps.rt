@@ -29,7 +29,7 @@ pub struct Started {
 
 // Outcome: 0 forwarded, 1 refused (question), 2 blamed (party: 0 device, 1 host; reason; field with reason 3).
 #[repr(C)]
-#[derive(Drop)]
+#[derive(Clone, Copy)]
 pub struct Verdict {
     pub outcome: u8,
     pub question: u8,
@@ -40,7 +40,7 @@ pub struct Verdict {
 
 // Whose turn it is: the number of the question that got a no, or 0, and the side (0 device, 1 host).
 #[repr(C)]
-#[derive(Drop)]
+#[derive(Clone, Copy)]
 pub struct Turn {
     pub question: u32,
     pub side: u32,
@@ -48,7 +48,7 @@ pub struct Turn {
 
 // The side whose bytes the due part is cut from (0 device, 1 host), and how long it is.
 #[repr(C)]
-#[derive(Drop)]
+#[derive(Clone, Copy)]
 pub struct Due {
     pub side: u32,
     pub length: u32,

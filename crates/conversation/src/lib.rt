@@ -6,7 +6,7 @@ use table::Party;
 pub mod batch;
 pub mod warning;
 
-#[derive(Drop)]
+#[derive(Clone, Copy)]
 pub enum Standing {
     Running,
     DeviceBlamed,
@@ -14,14 +14,14 @@ pub enum Standing {
 }
 
 // A conversation's state. The gateway keeps one for each.
-#[derive(Drop)]
+#[derive(Clone, Copy)]
 pub struct State {
     pub position: u8,
     pub standing: Standing,
 }
 
 // Why a sender is blamed. Fields count from 0. A message is early that comes out of turn under edition 2.
-#[derive(Drop)]
+#[derive(Clone, Copy)]
 pub enum Reason {
     NoLabel,
     OtherKinds,
@@ -30,7 +30,7 @@ pub enum Reason {
 }
 
 // A refusal holds its question's number.
-#[derive(Drop)]
+#[derive(Clone, Copy)]
 pub enum Verdict {
     Refused(u8),
     Blamed(Party, Reason),
@@ -45,14 +45,14 @@ pub struct Started {
     pub counts: Counts,
 }
 
-#[derive(Drop)]
+#[derive(Clone, Copy)]
 pub struct Stepped {
     pub state: State,
     pub verdict: Verdict,
 }
 
 // Whose turn it is. A refusal holds its question's number.
-#[derive(Drop)]
+#[derive(Clone, Copy)]
 pub enum Turn {
     Refused(u8),
     Of(Party),

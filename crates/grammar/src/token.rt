@@ -1,5 +1,5 @@
 // What a byte can begin.
-#[derive(Drop)]
+#[derive(Clone, Copy)]
 pub enum Class {
     Space,
     Lower,
@@ -13,7 +13,7 @@ pub enum Class {
 
 // A token from `start` up to `end`. The kind of a sign is its own byte; the other kinds are those of specs/Kind and, of a
 // word, its first letter.
-#[derive(Drop)]
+#[derive(Clone, Copy)]
 pub struct Token {
     pub kind: u8,
     pub start: usize,

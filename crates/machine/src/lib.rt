@@ -5,7 +5,7 @@ use message::High;
 
 // The fit check's answer: the number of the question that got a no; it fits, with the number of pairs met; it fails, with the
 // number of moves shown and the field that is high in the last of them.
-#[derive(Drop)]
+#[derive(Clone, Copy)]
 pub enum Fitting {
     Refused(u8),
     Fits(u16),

@@ -149,7 +149,7 @@ fn further(lane: Lane, n: usize) -> Lane
 }
 
 // What comes of one turn, whosesoever it is.
-#[derive(Drop)]
+#[derive(Clone, Copy)]
 struct Turned {
     answer: Last,
     batch: Batched,

@@ -15,7 +15,7 @@ use conversation::{Counts, State, Stepped, Verdict};
 use table::{Party, Table};
 
 // What comes of a side's turn.
-#[derive(Drop)]
+#[derive(Clone, Copy)]
 pub struct Taken {
     pub answer: Last,
     pub state: State,

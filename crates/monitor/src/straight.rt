@@ -35,7 +35,7 @@ pub fn takes(t: &Table, position: u8, sort: u32, side: Party, message: &[u8], ro
 }
 
 // The branch that the first message of some bytes takes, and its length. Branch 128: it does not go straight.
-#[derive(Drop)]
+#[derive(Clone, Copy)]
 pub struct Ahead {
     pub branch: usize,
     pub length: usize,

@@ -13,14 +13,14 @@ use message::{High, Made};
 use table::{Party, Table};
 
 // Where a state goes on to with a message, if it allows it.
-#[derive(Drop)]
+#[derive(Clone, Copy)]
 pub enum Heard {
     On(u8),
     Not,
 }
 
 // A pair of states, and whether the device is blamed there.
-#[derive(Drop)]
+#[derive(Clone, Copy)]
 pub struct Pair {
     pub state: u8,
     pub position: u8,
@@ -28,14 +28,14 @@ pub struct Pair {
 }
 
 // The pair once a move is played, and the place after its line.
-#[derive(Drop)]
+#[derive(Clone, Copy)]
 pub struct Played {
     pub pair: Pair,
     pub at: usize,
 }
 
 // The length of a message that is made, whose it is, and the place after its line.
-#[derive(Drop)]
+#[derive(Clone, Copy)]
 pub struct Said {
     pub length: usize,
     pub side: Party,

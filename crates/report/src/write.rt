@@ -13,7 +13,7 @@ use message::High;
 use table::Party;
 
 // Whose text a refusal is about.
-#[derive(Drop)]
+#[derive(Clone, Copy)]
 pub enum Whose {
     Protocol,
     Device,

@@ -6,7 +6,7 @@ use super::{Table, apart, letters};
 
 // What a pass over branches finds: whether all is right, and then the set of the owners, and the shares' bits together, which are 0
 // where no branch has one.
-#[derive(Drop)]
+#[derive(Clone, Copy)]
 pub struct Passed {
     pub ok: bool,
     pub set: u32,

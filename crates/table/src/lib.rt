@@ -13,7 +13,7 @@ mod letters;
 mod shares;
 mod states;
 
-#[derive(Drop)]
+#[derive(Clone, Copy)]
 pub enum Party {
     Device,
     Host,
@@ -117,7 +117,7 @@ pub fn sound_at(t: &Table, position: u32) -> bool
 }
 
 // What the pass over states finds: whether all is right, and then the set of the choices.
-#[derive(Drop)]
+#[derive(Clone, Copy)]
 struct Scan {
     ok: bool,
     set: u32,

@@ -6,7 +6,7 @@ ghost use Rattle.text.specs.inner.Recursive.{count_read, count_from};
 use crate::{number, step, token};
 
 // The place to go on at and a number; or a refusal.
-#[derive(Drop)]
+#[derive(Clone, Copy)]
 pub struct Counted {
     pub question: u8,
     pub at: usize,

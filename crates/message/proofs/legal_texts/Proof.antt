@@ -5,21 +5,21 @@ use Rattle.message.proofs.laws.LegalTexts.{no_texts}
 use Rattle.message.proofs.legal_texts.Statement.{statement}
 use Rattle.message.proofs.legal_texts.Tie as tie
 
-returns : tie.Need-returns
+returns : tie.Need-returns-then-size-lt9
 returns c = sym (no_texts c.before.before.args.bytes.now (omega arith))
 
-cast-count : tie.Need-overflow-cast-count
-cast-count c = omega (arith, c.shared-slice-known2.given 8)
+cast-count : tie.Need-overflow_cast-count
+cast-count c = omega (arith, c.shared_slice_known-2-1.given 8)
 
-mul-if2 : tie.Need-overflow-mul-if2
-mul-if2 c = omega (arith, c.shared-slice-known2.given 8)
+mul-if2 : tie.Need-overflow_mul-count
+mul-if2 c = omega (arith, c.shared_slice_known-2-1.given 8)
 
-add-if2 : tie.Need-overflow-add-if2
-add-if2 c = omega (arith, c.shared-slice-known2.given 8)
+add-if2 : tie.Need-overflow_add-count
+add-if2 c = omega (arith, c.shared_slice_known-2-1.given 8)
 
-returns-2 : tie.Need-returns-2
+returns-2 : tie.Need-returns-then-size-count
 unfolding count_of
-returns-2 c = sym (no_texts c.before.before.before.before.args.bytes.now c.if2.true)
+returns-2 c = sym (no_texts c.before.before.before.before.args.bytes.now c.if-size-count.true)
 
 texts-requires : tie.Need-texts-requires
 unfolding count_of

@@ -9,75 +9,75 @@ use Rattle.message.proofs.laws.LegalTexts.{left_legal, StopsAt, texts_begin, tex
 use Rattle.message.proofs.fields.texts.Statement.{statement}
 use Rattle.message.proofs.fields.texts.Tie as tie
 
-abbrev invariant-loop : tie.invariant-loop
+abbrev invariant-loop : tie.invariant-loop-f
 invariant-loop bytes count at₀ f₀ at f =
     (f ≤ count) × (count ≡ count_of bytes) × (9 + 5 * count ≤ length bytes) × (at ≤ length bytes)
     × (legal_texts bytes ≡ left_legal bytes f at)
 
-abbrev decreases-loop : tie.decreases-loop
+abbrev decreases-loop : tie.decreases-loop-f
 decreases-loop bytes count at₀ f₀ at f = count - f
 
-loop-holds : tie.Need-loop-init invariant-loop decreases-loop
+loop-holds : tie.Need-loop-f-init invariant-loop decreases-loop
 loop-holds c =
     let b = c.before.args.bytes.now in
     let e : count_of b ≡ c.before.args.count = omega arith in
     (search rules, search rules, search rules, search rules, texts_begin b ∙ ap (λ n. left_legal b 0 (9 + 5 * n)) e)
 
-cast-text-of : tie.Need-overflow-cast-text-of invariant-loop decreases-loop
-cast-text-of c = omega (arith, c.shared-slice-known2.given (9 + c.before.before.before.loop.f))
+cast-text-of : tie.Need-overflow_cast-bytes invariant-loop decreases-loop
+cast-text-of c = omega (arith, c.shared_slice_known-in-loop-f-1.given (9 + c.before.before.before.loop-f.f))
 
 -- what was read in this turn is the length of field f's text
-announced-here : (c : tie.After-text-of invariant-loop decreases-loop)
-    → c.text_of.result ≡ text_length (value_at c.before.before.before.before.before.before.args.bytes.now c.before.before.before.before.loop.f)
+announced-here : (c : tie.After-text_of-n invariant-loop decreases-loop)
+    → c.text_of-n.result ≡ text_length (value_at c.before.before.before.before.before.before.args.bytes.now c.before.before.before.before.loop-f.f)
 unfolding text_at
 announced-here c =
     let h = c.before.before.before.before in
     let b = h.before.before.args.bytes.now in
-    c.text_of.ensures.0
-    ∙ ap (text_at (get_or b (9 + h.loop.f) 0)) (c.before.before.number-here.ensures ∙ ap (λ n. number_at b (9 + n + 4 * h.loop.f)) h.loop.invariant.1)
+    c.text_of-n.ensures.0
+    ∙ ap (text_at (get_or b (9 + h.loop-f.f) 0)) (c.before.before.number_here-number.ensures ∙ ap (λ n. number_at b (9 + n + 4 * h.loop-f.f)) h.loop-f.invariant.1)
 
 -- it ends behind its first byte, and within the bytes
-sub-is-utf8 : tie.Need-overflow-sub-is-utf8 invariant-loop decreases-loop
-sub-is-utf8 c = ⊎_elim (λ w. omega (arith, w.1)) (λ w. omega (arith, w.1)) c.before.if1.branch
+sub-is-utf8 : tie.Need-slice_bounds-is_utf8-count invariant-loop decreases-loop
+sub-is-utf8 c = ⊎_elim (λ w. omega (arith, w.1)) (λ w. omega (arith, w.1)) c.before.if-n-bytes.branch
 
-part-is-utf8-start : tie.Need-slice-bounds-is-utf8-start invariant-loop decreases-loop
-part-is-utf8-start c = ⊎_elim (λ w. omega (arith, w.1)) (λ w. omega (arith, w.1)) c.before.if1.branch
+part-is-utf8-start : tie.Need-slice_bounds-is_utf8-start invariant-loop decreases-loop
+part-is-utf8-start c = ⊎_elim (λ w. omega (arith, w.1)) (λ w. omega (arith, w.1)) c.before.if-n-bytes.branch
 
-part-is-utf8-end : tie.Need-slice-bounds-is-utf8-end invariant-loop decreases-loop
-part-is-utf8-end c = ⊎_elim (λ w. omega (arith, w.0.taken, w.1)) (λ w. omega (arith, w.1)) c.before.if1.branch
+part-is-utf8-end : tie.Need-slice_bounds-is_utf8-end invariant-loop decreases-loop
+part-is-utf8-end c = ⊎_elim (λ w. omega (arith, w.0.taken, w.1)) (λ w. omega (arith, w.1)) c.before.if-n-bytes.branch
 
 -- that text, and those behind it
-one_more : (c : tie.After-is-utf8 invariant-loop decreases-loop)
+one_more : (c : tie.After-is_utf8 invariant-loop decreases-loop)
     → legal_texts c.before.before.before.before.before.before.before.before.before.before.args.bytes.now
     ≡ (c.is_utf8.result && left_legal c.before.before.before.before.before.before.before.before.before.before.args.bytes.now
-    (c.before.before.before.before.before.before.before.before.loop.f + 1) c.before.before.before.if1.end)
+    (c.before.before.before.before.before.before.before.before.loop-f.f + 1) c.before.before.before.if-n-bytes.end)
 one_more c =
     let i = c.before.before.before in
     let h = i.before.before.before.before.before in
     let b = h.before.before.args.bytes.now in
     let n = announced-here i.before in
-    let cut : StopsAt b h.loop.at (text_length (value_at b h.loop.f)) i.if1.end =
-    ⊎_elim (λ w. inl (w.1 ∙ ap (λ k. h.loop.at + k) n)) (λ w. inr (w.1, omega (arith, w.0.left, n))) i.if1.branch
+    let cut : StopsAt b h.loop-f.at (text_length (value_at b h.loop-f.f)) i.if-n-bytes.end =
+    ⊎_elim (λ w. inl (w.1 ∙ ap (λ k. h.loop-f.at + k) n)) (λ w. inr (w.1, omega (arith, w.0.left, n))) i.if-n-bytes.branch
     in
-    h.loop.invariant.4 ∙ texts_next b (omega arith) h.loop.f h.loop.at i.if1.end (omega arith) cut
-    ∙ ap (λ t. t && left_legal b (h.loop.f + 1) i.if1.end) (sym c.is_utf8.ensures)
+    h.loop-f.invariant.4 ∙ texts_next b (omega arith) h.loop-f.f h.loop-f.at i.if-n-bytes.end (omega arith) cut
+    ∙ ap (λ t. t && left_legal b (h.loop-f.f + 1) i.if-n-bytes.end) (sym c.is_utf8.ensures)
 
-returns : tie.Need-returns invariant-loop decreases-loop
-returns c = sym (one_more c.before ∙ left_fails _ (not-true c.before.is_utf8.result c.if2.true))
+returns : tie.Need-returns-then-not-is_utf8 invariant-loop decreases-loop
+returns c = sym (one_more c.before ∙ left_fails _ (c.if-not-is_utf8.true))
 
-loop-again : tie.Need-loop-preserved invariant-loop decreases-loop
+loop-again : tie.Need-loop-f-preserved invariant-loop decreases-loop
 loop-again c =
     let i = c.before.before.before.before in (
       search rules,
       search rules,
       search rules,
-      ⊎_elim (λ w. omega (arith, w.0.taken, w.1)) (λ w. omega (arith, w.1)) i.if1.branch,
-      one_more c.before ∙ left_passes _ (not-false c.before.is_utf8.result c.if2.false),
+      ⊎_elim (λ w. omega (arith, w.0.taken, w.1)) (λ w. omega (arith, w.1)) i.if-n-bytes.branch,
+      one_more c.before ∙ left_passes _ (c.if-not-is_utf8.false),
     )
 
-returns-2 : tie.Need-returns-2 invariant-loop decreases-loop
+returns-2 : tie.Need-returns invariant-loop decreases-loop
 returns-2 c =
-    let l = c.before.loop in
+    let l = c.before.loop-f in
     sym (l.invariant.4 ∙ texts_end c.before.before.before.args.bytes.now (omega arith) l.f l.at (omega arith))
 
 pub texts_spec : {M : Type 1} → statement M
