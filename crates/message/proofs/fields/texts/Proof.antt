@@ -6,6 +6,7 @@ use Rattle.message.specs.Message.{count_of, text_length, number_at, legal_texts}
 use Rattle.message.specs.inner.Layout.{text_at}
 use Rattle.message.proofs.laws.Message.{value_at}
 use Rattle.message.proofs.laws.LegalTexts.{left_legal, StopsAt, texts_begin, texts_next, texts_end}
+use Rattle.message.proofs.fields.texts.Lts.{then-n-bytes, else-n-bytes}
 use Rattle.message.proofs.fields.texts.Statement.{statement}
 use Rattle.message.proofs.fields.texts.Tie as tie
 
@@ -38,13 +39,13 @@ announced-here c =
 
 -- it ends behind its first byte, and within the bytes
 sub-is-utf8 : tie.Need-slice_bounds-is_utf8-count invariant-loop decreases-loop
-sub-is-utf8 c = ⊎_elim (λ w. omega (arith, w.1)) (λ w. omega (arith, w.1)) c.before.if-n-bytes.branch
+sub-is-utf8 c = elim c.if-n-bytes.branch [ then-n-bytes w ↦ omega (arith, w.end-is) | else-n-bytes w ↦ omega (arith, w.end-is) ]
 
 part-is-utf8-start : tie.Need-slice_bounds-is_utf8-start invariant-loop decreases-loop
-part-is-utf8-start c = ⊎_elim (λ w. omega (arith, w.1)) (λ w. omega (arith, w.1)) c.before.if-n-bytes.branch
+part-is-utf8-start c = elim c.if-n-bytes.branch [ then-n-bytes w ↦ omega (arith, w.end-is) | else-n-bytes w ↦ omega (arith, w.end-is) ]
 
 part-is-utf8-end : tie.Need-slice_bounds-is_utf8-end invariant-loop decreases-loop
-part-is-utf8-end c = ⊎_elim (λ w. omega (arith, w.0.taken, w.1)) (λ w. omega (arith, w.1)) c.before.if-n-bytes.branch
+part-is-utf8-end c = elim c.if-n-bytes.branch [ then-n-bytes w ↦ omega (arith, w.if-n-bytes.true, w.end-is) | else-n-bytes w ↦ omega (arith, w.end-is) ]
 
 -- that text, and those behind it
 one_more : (c : tie.After-is_utf8 invariant-loop decreases-loop)
@@ -57,7 +58,7 @@ one_more c =
     let b = h.before.before.args.bytes.now in
     let n = announced-here i.before in
     let cut : StopsAt b h.loop-f.at (text_length (value_at b h.loop-f.f)) i.if-n-bytes.end =
-    ⊎_elim (λ w. inl (w.1 ∙ ap (λ k. h.loop-f.at + k) n)) (λ w. inr (w.1, omega (arith, w.0.left, n))) i.if-n-bytes.branch
+    elim i.if-n-bytes.branch [ then-n-bytes w ↦ inl (w.end-is ∙ ap (λ k. h.loop-f.at + k) n) | else-n-bytes w ↦ inr (w.end-is, omega (arith, w.if-n-bytes.false, n)) ]
     in
     h.loop-f.invariant.4 ∙ texts_next b (omega arith) h.loop-f.f h.loop-f.at i.if-n-bytes.end (omega arith) cut
     ∙ ap (λ t. t && left_legal b (h.loop-f.f + 1) i.if-n-bytes.end) (sym c.is_utf8.ensures)
@@ -71,7 +72,7 @@ loop-again c =
       search rules,
       search rules,
       search rules,
-      ⊎_elim (λ w. omega (arith, w.0.taken, w.1)) (λ w. omega (arith, w.1)) i.if-n-bytes.branch,
+      elim i.if-n-bytes.branch [ then-n-bytes w ↦ omega (arith, w.if-n-bytes.true, w.end-is) | else-n-bytes w ↦ omega (arith, w.end-is) ],
       one_more c.before ∙ left_passes _ (c.if-not-is_utf8.false),
     )
 
