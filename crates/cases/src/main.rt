@@ -14,6 +14,7 @@
 // What j, g, f and i want, the lines w, which ask for the due part, and three lines b, whose standing is no code, are left to the tests
 // in Rust: 39 of the 688 cases of `monitor` and 13 of the 135 of `batches`.
 #![tactic(auto)]
+
 ghost use Rattle.std.specs.Prelude.{◌≤◌};
 
 use conversation::{Counts, State};

@@ -1,6 +1,7 @@
 // Conversations: their state, the verdicts and the counts, with the definitions of what a step, a batch, the due part and a warning come to, their laws, and the
 // claims over whole conversations: demand 2, early messages, batches and counts. No code: the crates `questions` and `monitor` have it.
 #![tactic(auto)]
+
 use table::Party;
 
 pub mod batch;

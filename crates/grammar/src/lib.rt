@@ -1,6 +1,7 @@
 // What a text is: tokens, the grammar, the table that a text means, and reading it token by token with its questions. Definitions and their laws. No
 // code: the crate `text` has it.
 #![tactic(auto)]
+
 use table::Table;
 
 pub mod token;

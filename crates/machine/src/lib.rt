@@ -1,6 +1,7 @@
 // Device and monitor together, document 01's machine, and the fit check that is said over it: definitions, their laws, and the claims over whole lists
 // of moves. No code: the crate `fit` has it.
 #![tactic(auto)]
+
 use message::High;
 
 // The fit check's answer: the number of the question that got a no; it fits, with the number of pairs met; it fails, with the

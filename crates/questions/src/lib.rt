@@ -1,5 +1,6 @@
 // The questions of a conversation: how it is started, 9 to 16 and 22, whose turn it is, the due part; the warning of a branch.
 #![tactic(auto)]
+
 ghost use Rattle.std.specs.Prelude.{◌≡◌};
 ghost use Rattle.conversation.specs.Step.{fresh};
 ghost use Rattle.conversation.specs.Due.{seen, turn_answer, first_length};

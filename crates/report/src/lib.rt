@@ -3,6 +3,7 @@
 // The text opens the lent buffer, the rest of which is unchanged. Where the buffer does not hold it, the answer is 0 and nothing
 // changes. 16,384 bytes hold every report.
 #![tactic(auto)]
+
 ghost use Rattle.std.specs.Prelude.{◌≡◌, true, ◌≤◌, length};
 ghost use Rattle.table.specs.View.{sound_of};
 ghost use Rattle.report.specs.Report.{Written};

@@ -1,5 +1,6 @@
 // Document 01's report program. Reads `protocol.txt`, then `device.txt`, in the folder in which it is run, and prints the report.
 #![tactic(auto)]
+
 ghost use Rattle.io.specs.Counts.{IsPrefixLen};
 
 use libc::STDOUT_FILENO;

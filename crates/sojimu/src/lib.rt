@@ -2,6 +2,7 @@
 // Enums cross as codes, by the definitions of the crate `codes`. No call has a precondition or keeps anything between calls. A
 // refusal changes nothing that was lent. A number that is too large for what it names is refused, and never narrowed.
 #![tactic(auto)]
+
 ghost use Rattle.std.specs.Prelude.{◌≡◌};
 
 mod batches;

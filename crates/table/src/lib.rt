@@ -2,6 +2,7 @@
 // A table is one array of words, and it is lent. The words may be anything: each call that takes a table asks question 9 of it before
 // anything else. Here the dual alone can refuse: by 9, with the empty table.
 #![tactic(auto)]
+
 ghost use Rattle.std.specs.Prelude.{◌≡◌, ◌<◌};
 ghost use Rattle.table.specs.Table.{legal_label, legal_field, known_edition};
 ghost use Rattle.table.specs.View.{joined_label, word_at, label_of, regular_of, sound_of, sound_at, empty_table, opposite_of, turned, dual_of};

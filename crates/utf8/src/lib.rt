@@ -1,5 +1,6 @@
 // Well-formed UTF-8 (RFC 3629), for the texts of messages.
 #![tactic(auto)]
+
 ghost use Rattle.std.specs.Prelude.{◌≡◌, true, ◌+◌, ◌≤◌, ◌<◌, length, get_or};
 ghost use Rattle.utf8.specs.Utf8.{is_utf8, within, ◌to◌};
 ghost use Rattle.utf8.specs.inner.Characters.{is_ascii, Ascii, AsciiTo, Width, char_size, second, low_first};

@@ -1,6 +1,5 @@
 -- `message::broken` meets its contract. Assumes nothing.
 use Rattle.std.proofs.Common.{eqb, sym, ap, ◌∙◌, rules}
-use borrow.Author.Tests.{not-true, not-false}
 use Rattle.message.specs.Message.{front_of}
 use Rattle.message.proofs.laws.Broken.{broken_short, broken_closed, broken_fields}
 use Rattle.message.proofs.broken.Statement.{statement}

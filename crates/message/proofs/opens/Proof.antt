@@ -1,6 +1,5 @@
 -- `message::opens` meets its contract. Assumes nothing.
 use Rattle.std.proofs.Common.{◌≡◌, ◌&&◌, leb, take, sym, ap, ◌∙◌, rules}
-use borrow.Author.Tests.{not-true, not-false}
 use Rattle.table.specs.Table.{legal_label}
 use Rattle.message.specs.Message.{count_of, opens}
 use Rattle.message.proofs.opens.Statement.{statement}

@@ -3,7 +3,6 @@ use Prim.Native.Nat.{◌-◌}
 use native.Mathlib.Omega.{arith}
 use lib.ListN.{length}
 use borrow.Author.Rules.{rules}
-use borrow.Author.Tests.{not-false}
 use Rattle.utf8.specs.inner.Characters.{Ascii}
 use Rattle.utf8.proofs.laws.Characters.{ascii_none, ascii_on}
 use Rattle.utf8.proofs.blocks.Statement.{statement}

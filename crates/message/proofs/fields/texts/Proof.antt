@@ -1,6 +1,5 @@
 -- `message::fields::texts` meets its contract: after f texts the rest decides. Assumes nothing.
-use Rattle.std.proofs.Common.{◌≡◌, ◌+◌, ◌-◌, ◌*◌, ◌≤◌, ◌&&◌, length, get_or, sym, ap, ◌∙◌, inl, inr, ⊎_elim, arith, rules}
-use borrow.Author.Tests.{not-true, not-false}
+use Rattle.std.proofs.Common.{◌≡◌, ◌+◌, ◌-◌, ◌*◌, ◌≤◌, ◌&&◌, length, get_or, sym, ap, ◌∙◌, inl, inr, arith, rules}
 use Rattle.table.proofs.laws.Lists.{left_fails, left_passes}
 use Rattle.message.specs.Message.{count_of, text_length, number_at, legal_texts}
 use Rattle.message.specs.inner.Layout.{text_at}

@@ -1,7 +1,6 @@
 -- `table::apart::all_apart` meets its contract: every branch looked at has its mark in the filter. Assumes nothing.
 use Rattle.std.proofs.Common.{◌≡◌, ℕ, ◌-◌, ◌≤◌, true, sym, refl, ap, ◌∙◌, arith, rules}
 use lib.ListN.{length-replicate}
-use borrow.Author.Tests.{not-true, not-false}
 use Rattle.bits.proofs.laws.Digits.{with_below}
 use Rattle.table.specs.inner.Scans.{all, no_twin, mark_of}
 use Rattle.table.proofs.laws.Lists.{all_yes, all_no, all_end}

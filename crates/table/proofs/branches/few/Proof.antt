@@ -1,6 +1,5 @@
 -- `table::branches::few` meets its contract. Assumes nothing.
 use Rattle.std.proofs.Common.{◌≡◌, ℕ, ◌-◌, ◌<◌, ◌≤◌, true, sym, refl, ap, ◌∙◌, subst, not-suc-le-zero, arith, rules, below_more}
-use borrow.Author.Tests.{not-true, not-false}
 use Rattle.bits.proofs.laws.Digits.{with_below}
 use Rattle.table.specs.Table.{legal_label}
 use Rattle.table.specs.View.{word_at, label_of}

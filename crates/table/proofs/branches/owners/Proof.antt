@@ -1,6 +1,5 @@
 -- `table::branches::owners` meets its contract. Assumes nothing.
 use Rattle.std.proofs.Common.{sym, ◌∙◌, rules}
-use borrow.Author.Tests.{not-true, not-false}
 use Rattle.table.proofs.laws.View.{passed_places, stopped_label, stopped_twin}
 use Rattle.table.proofs.branches.owners.Statement.{statement}
 use Rattle.table.proofs.branches.owners.Tie as tie

@@ -1,6 +1,5 @@
 -- `table::branches::places` meets its contract. Assumes nothing.
 use Rattle.std.proofs.Common.{◌≡◌, ◌-◌, ◌≤◌, true, sym, refl, ap, ◌∙◌, arith, rules}
-use borrow.Author.Tests.{not-true, not-false}
 use Rattle.bits.proofs.laws.Digits.{with_below}
 use Rattle.table.specs.declared.branches.Passed.{Passed}
 use Rattle.table.specs.inner.Scans.{all, in_place, Members, Unshared}

@@ -26,7 +26,7 @@ loop-again c = (
   search rules,
   search rules,
   all_yes _ c.before.before.before.loop-i.i c.before.before.before.loop-i.invariant.2
-  (elim c.if-sum-ne0.branch [ then-sum-ne0+else-sum-ne1000 w ↦ full_sum _ w.if-sum-ne1000.false | else-sum-ne0 w ↦ empty_sum _ w.if-sum-ne0.false ]),
+      (elim c.if-sum-ne0.branch [ then-sum-ne0+else-sum-ne1000 w ↦ full_sum _ w.if-sum-ne1000.false | else-sum-ne0 w ↦ empty_sum _ w.if-sum-ne0.false ]),
 )
 
 returns-2 : tie.Need-returns invariant-loop decreases-loop
