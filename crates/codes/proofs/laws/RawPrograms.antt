@@ -226,22 +226,22 @@ module _ (t : Words) (s : State) (c : Counts) where
 -- ---- one after another
 
 module _ (t : Words) where
-  kept_is : (s : State) (c : Counts) (raws : List RawCall)
+  kept_is : (raws : List RawCall) (s : State) (c : Counts)
       → kept_after t (kept s c) raws ≡ kept (program t s c (calls_of raws)).state (program t s c (calls_of raws)).counts
   unfolding kept_after raw_called call_of calls_of program run_on called given_state given_counts
-  kept_is s c [] = refl
-  kept_is s c (raw_step zero message out ∷ r) = rw (codes_step t s c Device message out) (kept_is _ _ r)
-  kept_is s c (raw_step (suc zero) message out ∷ r) = rw (codes_step t s c Host message out) (kept_is _ _ r)
-  kept_is s c (raw_step (suc (suc n)) message out ∷ r) = ap (λ k. kept_after t k r) (none_keeps t s c n message out) ∙ kept_is s c r
-  kept_is s c (raw_batch device host to_device to_host ∷ r) = rw (codes_batch t s c (lent device host to_device to_host)) (kept_is _ _ r)
-  kept_is s c (raw_turn ∷ r) = kept_is s c r
-  kept_is s c (raw_due device host ∷ r) = kept_is s c r
+  kept_is [] s c = refl
+  kept_is (raw_step zero message out ∷ r) s c = rw (codes_step t s c Device message out) (kept_is r _ _)
+  kept_is (raw_step (suc zero) message out ∷ r) s c = rw (codes_step t s c Host message out) (kept_is r _ _)
+  kept_is (raw_step (suc (suc n)) message out ∷ r) s c = ap (λ k. kept_after t k r) (none_keeps t s c n message out) ∙ kept_is r s c
+  kept_is (raw_batch device host to_device to_host ∷ r) s c = rw (codes_batch t s c (lent device host to_device to_host)) (kept_is r _ _)
+  kept_is (raw_turn ∷ r) s c = kept_is r s c
+  kept_is (raw_due device host ∷ r) s c = kept_is r s c
 
   -- from the start, over any rules
   pub watched_raw : {A : Type 0} (rules : Rules A) (z : ℕ) (raws : List RawCall) → WatchedCalls rules t z (calls_of raws) → WatchedRaw rules t z raws
   unfolding kept_from
   watched_raw rules z raws w =
-      let k = kept_is (starting t z).state (starting t z).counts raws in
+      let k = kept_is raws (starting t z).state (starting t z).counts in
       let r = run_from t z (calls_of raws) in
       record {
         starts = w.starts;

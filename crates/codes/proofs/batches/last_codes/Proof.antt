@@ -4,13 +4,13 @@ use Rattle.conversation.specs.Batch.{last_of}
 use Rattle.codes.proofs.batches.last_codes.Statement.{statement}
 use Rattle.codes.proofs.batches.last_codes.Tie as tie
 
-returns : tie.Need-returns
+returns : tie.Need-returns-in-NoneDue
 unfolding last_of
-returns c = rw c.enum_told.given.1
+returns c = rw c.in-NoneDue.is
 
-returns-2 : tie.Need-returns-2
+returns-2 : tie.Need-returns-in-Answer
 unfolding last_of
-returns-2 c = rw c.before.before.last.given.1 c.verdict_codes.ensures
+returns-2 c = rw c.in-Answer.is c.verdict_codes.ensures
 
 pub last_codes_spec : {M : Type 1} → statement M
 last_codes_spec =

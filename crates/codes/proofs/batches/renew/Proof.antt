@@ -5,11 +5,11 @@ use Rattle.codes.proofs.laws.BatchingCodes.{bytes_left, bytes_put}
 use Rattle.codes.proofs.batches.renew.Statement.{statement}
 use Rattle.codes.proofs.batches.renew.Tie as tie
 
-returns : tie.Need-returns
-returns c = bytes_left _ _ (sym c.before.stand_for.ensures ∙ c.if1.true)
+returns : tie.Need-returns-then-stand_for
+returns c = bytes_left _ _ (sym c.before.stand_for.ensures ∙ c.if-stand_for.true)
 
-returns-2 : tie.Need-returns-2
-returns-2 c = c.put.ensures ∙ bytes_put _ _ (sym c.before.before.before.stand_for.ensures ∙ c.before.before.if1.false)
+returns-2 : tie.Need-returns
+returns-2 c = c.put.ensures ∙ bytes_put _ _ (sym c.before.before.before.stand_for.ensures ∙ c.before.before.if-stand_for.false)
 
 pub renew_spec : {M : Type 1} → statement M
 renew_spec =

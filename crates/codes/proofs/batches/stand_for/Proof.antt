@@ -7,14 +7,14 @@ use Rattle.codes.proofs.laws.BatchingCodes.{other_place, same_place}
 use Rattle.codes.proofs.batches.stand_for.Statement.{statement}
 use Rattle.codes.proofs.batches.stand_for.Tie as tie
 
-returns : tie.Need-returns
-returns c = other_place _ _ _ c.if1.true
+returns : tie.Need-returns-then-position-s
+returns c = other_place _ _ _ c.if-position-s.true
 
-returns-2 : tie.Need-returns-2
+returns-2 : tie.Need-returns
 returns-2 c =
     let x = c.before.before in
-    ap₂ eqb (c.before.standing_code.ensures ∙ ap standing_code x.standing_of.ensures) c.standing-code2.ensures
-    ∙ same_place _ _ _ x.before.if1.false
+    ap₂ eqb (c.before.standing_code.ensures ∙ ap standing_code x.standing_of-before.ensures) c.standing_code-2.ensures
+    ∙ same_place _ _ _ x.before.if-position-s.false
 
 pub stand_for_spec : {M : Type 1} → statement M
 stand_for_spec =

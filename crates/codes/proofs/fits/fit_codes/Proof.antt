@@ -4,17 +4,17 @@ use Rattle.machine.specs.Answer.{answer_of}
 use Rattle.codes.proofs.fits.fit_codes.Statement.{statement}
 use Rattle.codes.proofs.fits.fit_codes.Tie as tie
 
-returns : tie.Need-returns
+returns : tie.Need-returns-in-Fits
 unfolding answer_of
-returns c = rw c.before.fitting.given.1
+returns c = rw c.in-Fits.is
 
-returns-2 : tie.Need-returns-2
+returns-2 : tie.Need-returns-in-Fails
 unfolding answer_of
-returns-2 c = rw (c.high_code.ensures, c.before.before.fitting2.given.1)
+returns-2 c = rw (c.high_code.ensures, c.in-Fails.is)
 
-returns-3 : tie.Need-returns-3
+returns-3 : tie.Need-returns-in-Refused
 unfolding answer_of
-returns-3 c = rw c.before.fitting3.given.1
+returns-3 c = rw c.in-Refused.is
 
 pub fit_codes_spec : {M : Type 1} → statement M
 fit_codes_spec =

@@ -5,7 +5,7 @@ use Rattle.codes.proofs.laws.Wide.{same_branch}
 use Rattle.codes.proofs.messages.branch_of.Statement.{statement}
 use Rattle.codes.proofs.messages.branch_of.Tie as tie
 
-returns-2 : tie.Need-returns-2
+returns-2 : tie.Need-returns
 returns-2 c = same_branch _ _ (omega arith) (omega arith)
 
 pub branch_of_spec : {M : Type 1} → statement M

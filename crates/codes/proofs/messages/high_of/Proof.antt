@@ -8,17 +8,17 @@ use Rattle.codes.proofs.laws.Wide.{same_field}
 use Rattle.codes.proofs.messages.high_of.Statement.{statement}
 use Rattle.codes.proofs.messages.high_of.Tie as tie
 
-returns : tie.Need-returns
+returns : tie.Need-returns-then-named-eq255
 unfolding high_of
-returns c = rw (eq-eqb c.before.args.named 255 c.if1.true) (λ t k out. refl)
+returns c = rw (eq-eqb c.before.args.named 255 c.if-named-eq255.true) (λ t k out. refl)
 
-returns-2 : tie.Need-returns-2
+returns-2 : tie.Need-returns-then-named-lt255
 unfolding high_of
-returns-2 c = rw (ne_eqb c.before.before.args.named 255 c.before.if1.false) (λ t k out. refl)
+returns-2 c = rw (ne_eqb c.before.before.args.named 255 c.before.if-named-eq255.false) (λ t k out. refl)
 
-returns-3 : tie.Need-returns-3
+returns-3 : tie.Need-returns
 unfolding high_of
-returns-3 c = rw (ne_eqb c.before.before.args.named 255 c.before.if1.false) (same_field _ _ (omega arith) (omega arith))
+returns-3 c = rw (ne_eqb c.before.before.args.named 255 c.before.if-named-eq255.false) (same_field _ _ (omega arith) (omega arith))
 
 pub high_of_spec : {M : Type 1} → statement M
 high_of_spec = tie.close (tie.spec returns (λ c. search rules) returns-2 returns-3)

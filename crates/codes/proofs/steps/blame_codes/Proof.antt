@@ -13,29 +13,29 @@ use Rattle.codes.proofs.steps.blame_codes.Tie as tie
 again : (side : Party) {v w : Reason} → w ≡ v → verdict_codes (told (Blamed side v)) ≡ verdict_codes (told (Blamed side w))
 again side e = ap (λ w. verdict_codes (told (Blamed side w))) (sym e)
 
-returns : tie.Need-returns
+returns : tie.Need-returns-in-NoLabel
 unfolding told reason outside
 returns c =
-    rw (c.blame.ensures, c.before.before.before.party_code.ensures)
-    (again c.before.before.before.before.args.party c.before.enum_told.given.1)
+    rw (c.blame.ensures, c.party_code-code.ensures)
+    (again c.args.party c.in-NoLabel.is)
 
-returns-2 : tie.Need-returns-2
+returns-2 : tie.Need-returns-in-OtherKinds
 unfolding told reason outside
 returns-2 c =
-    rw (c.blame2.ensures, c.before.before.before.party_code.ensures)
-    (again c.before.before.before.before.args.party c.before.enum-told2.given.1)
+    rw (c.blame-in-OtherKinds.ensures, c.party_code-code.ensures)
+    (again c.args.party c.in-OtherKinds.is)
 
-returns-3 : tie.Need-returns-3
+returns-3 : tie.Need-returns-in-OutOfRange
 unfolding told reason outside
 returns-3 c =
-    rw (c.blame3.ensures, c.before.before.before.before.party_code.ensures)
-    (again c.before.before.before.before.before.args.party c.before.before.reason.given.1)
+    rw (c.blame-in-OutOfRange.ensures, c.party_code-code.ensures)
+    (again c.args.party c.in-OutOfRange.is)
 
-returns-4 : tie.Need-returns-4
+returns-4 : tie.Need-returns-in-Early
 unfolding told reason outside
 returns-4 c =
-    rw (c.blame4.ensures, c.before.before.before.party_code.ensures)
-    (again c.before.before.before.before.args.party c.before.enum-told3.given.1)
+    rw (c.blame-in-Early.ensures, c.party_code-code.ensures)
+    (again c.args.party c.in-Early.is)
 
 pub blame_codes_spec : {M : Type 1} → statement M
 blame_codes_spec =

@@ -7,20 +7,19 @@ use Rattle.codes.proofs.laws.Codes.{blame_kept}
 use Rattle.codes.proofs.steps.keep.Statement.{statement}
 use Rattle.codes.proofs.steps.keep.Tie as tie
 
-returns : tie.Need-returns
+returns : tie.Need-returns-in-Refused
 unfolding told bytes_after
-returns c = rw c.enum_told.given.1
+returns c = rw c.in-Refused.is
 
-returns-2 : tie.Need-returns-2
+returns-2 : tie.Need-returns-in-Blamed
 unfolding told bytes_after
 returns-2 c =
-    let x = c.before.before.enum-told2.given in
-    let a = c.before.before.before.before.before.args in
-    rw x.1 (c.put.ensures ∙ sym (blame_kept x.0.0 x.0.1.0 a.r.state a.state.now))
+    let x = c.in-Blamed in
+    rw x.is (c.put.ensures ∙ sym (blame_kept x.field-0 x.field-1 c.args.r.state c.args.state.now))
 
-returns-3 : tie.Need-returns-3
+returns-3 : tie.Need-returns-in-Forwarded
 unfolding told bytes_after
-returns-3 c = rw c.before.before.enum-told3.given.1 c.put2.ensures
+returns-3 c = rw c.in-Forwarded.is c.put-in-Forwarded.ensures
 
 pub keep_spec : {M : Type 1} → statement M
 keep_spec =

@@ -1,6 +1,7 @@
 -- `codes::steps::standing_of` meets its contract. Assumes nothing.
 use mathlib.Core.Path.{◌≡◌, refl}
 use Prim.Native.Nat.{ℕ, zero, suc}
+use native.Mathlib.Omega.{arith}
 use borrow.Author.Rules.{rules}
 use Rattle.conversation.specs.declared.Standing.TheVariants.{HostBlamed}
 use Rattle.codes.specs.Codes.{standing_of}
@@ -12,8 +13,8 @@ other zero a b = absurd (a refl)
 other (suc zero) a b = absurd (b refl)
 other (suc (suc n)) a b = refl
 
-returns-3 : tie.Need-returns-3
-returns-3 c = other c.before.args.code c.match.rest.0.1 c.match.rest.1
+returns-3 : tie.Need-returns-in_default
+returns-3 c = other c.args.code (omega arith) (omega arith)
 
 pub standing_of_spec : {M : Type 1} → statement M
 standing_of_spec = tie.close (tie.spec (λ c. search rules) (λ c. search rules) returns-3)

@@ -4,13 +4,13 @@ use Rattle.conversation.specs.Due.{turn_answer}
 use Rattle.codes.proofs.steps.turn_codes.Statement.{statement}
 use Rattle.codes.proofs.steps.turn_codes.Tie as tie
 
-returns : tie.Need-returns
+returns : tie.Need-returns-in-Refused
 unfolding turn_answer
-returns c = rw c.before.t.given.1
+returns c = rw c.in-Refused.is
 
-returns-2 : tie.Need-returns-2
+returns-2 : tie.Need-returns-in-Of
 unfolding turn_answer
-returns-2 c = rw (c.party_code.ensures, c.before.before.t2.given.1)
+returns-2 c = rw (c.party_code.ensures, c.in-Of.is)
 
 pub turn_codes_spec : {M : Type 1} → statement M
 turn_codes_spec =

@@ -4,16 +4,16 @@ use Rattle.conversation.specs.Step.{told}
 use Rattle.codes.proofs.steps.verdict_codes.Statement.{statement}
 use Rattle.codes.proofs.steps.verdict_codes.Tie as tie
 
-returns : tie.Need-returns
+returns : tie.Need-returns-in-Forwarded
 unfolding told
-returns c = rw c.enum_told.given.1
+returns c = rw c.in-Forwarded.is
 
-returns-2 : tie.Need-returns-2
+returns-2 : tie.Need-returns-in-Refused
 unfolding told
-returns-2 c = rw c.before.verdict.given.1
+returns-2 c = rw c.in-Refused.is
 
-returns-3 : tie.Need-returns-3
-returns-3 c = rw c.before.before.verdict2.given.1 c.blame-codes.ensures
+returns-3 : tie.Need-returns-in-Blamed
+returns-3 c = rw c.in-Blamed.is c.blame_codes.ensures
 
 pub verdict_codes_spec : {M : Type 1} → statement M
 verdict_codes_spec =
