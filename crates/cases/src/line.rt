@@ -3,7 +3,7 @@
 
 // How far a line is read. Its numbers stand in an array, and what is beyond the array is dropped: the first `given` of them are
 // given, and those from there up to `total` wanted.
-#[derive(Drop)]
+#[derive(Clone, Copy)]
 pub struct Line {
     pub command: u8,
     pub given: usize,

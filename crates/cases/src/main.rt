@@ -16,11 +16,14 @@
 #![tactic(auto)]
 
 ghost use Rattle.std.specs.Prelude.{◌≤◌};
+ghost use Rattle.std.specs.Counts.{IsPrefixLen};
 
 use conversation::{Counts, State};
-use libc::STDOUT_FILENO;
 use line::Line;
+use std::io::Read;
 use std::num::wrapping_add_u64;
+use std::rt::Files;
+use std::{fs, io};
 use step::Outcome;
 use table::Table;
 
@@ -194,7 +197,7 @@ fn command_of(command: u8, standing: u64) -> u8 {
 }
 
 // The tally with a line more. No count wraps: at most 65,536 bytes of a file are read.
-fn counted(tally: Tally, command: u8, right: bool) -> Tally {
+fn counted(rt: &impl Print, tally: Tally, command: u8, right: bool) -> io::Result<Tally> {
     let mut r = tally;
     r.lines = wrapping_add_u64(r.lines, 1);
     if command == b's' || command == b'u' {
@@ -208,22 +211,18 @@ fn counted(tally: Tally, command: u8, right: bool) -> Tally {
     }
     if !right {
         r.wrong = wrapping_add_u64(r.wrong, 1);
-        print_wrong(command, r.lines);
+        print_wrong(rt, command, r.lines)?;
     }
-    r
+    Ok(r)
 }
 
-fn print_wrong(command: u8, line: u64) {
-    let letter = [command];
-    io::write_all(STDOUT_FILENO, b"wrong ");
-    io::write_all(STDOUT_FILENO, &letter);
-    io::write_all(STDOUT_FILENO, b": line ");
-    io::print_decimal(STDOUT_FILENO, line);
-    io::write_all(STDOUT_FILENO, b"\n");
+fn print_wrong(rt: &impl Print, command: u8, line: u64) -> io::Result<()> {
+    let letter = command as char;
+    println!(rt; "wrong {letter}: line {line}")
 }
 
 // Every line of a file.
-fn run(s: &[u8]) -> Tally {
+fn run(rt: &impl Print, s: &[u8]) -> io::Result<Tally> {
     let mut numbers = [0u64; 512];
     let mut t = table::empty();
     let mut state = step::state_of(0, 0);
@@ -251,37 +250,56 @@ fn run(s: &[u8]) -> Tally {
         }
         let r = outcome(l, &t, state, &mut c, &numbers);
         state = r.state;
-        tally = counted(tally, l.command, r.right);
+        tally = counted(rt, tally, l.command, r.right)?;
         l = line::begin();
     }
-    tally
+    Ok(tally)
+}
+
+// Reads until the buffer is full, the file ends or a read fails; how many bytes were read, which open the buffer.
+fn read_full(file: &mut impl Read, buf: &mut [u8]) -> usize
+    ensures { IsPrefixLen result buf.new }
+{
+    let mut done: usize = 0;
+    while done < buf.len() {
+        match file.read(&mut buf[done..]) {
+            Ok(0) | Err(_) => break,
+            Ok(n) => done += n,
+        }
+    }
+    done
+}
+
+// The bytes of a file, at most 65,536; none where it can't be opened.
+fn load(rt: &impl Files, name: &str, buf: &mut [u8; 65536]) -> usize
+    ensures { IsPrefixLen result buf.new }
+{
+    let Ok(mut file) = fs::open(rt, name) else {
+        return 0;
+    };
+    read_full(&mut file, buf)
 }
 
 // The file of that name.
-fn run_file(name: &[u8]) -> Tally {
-    let mut buf = io::large_buffer();
-    let n = io::read_full(os::open_read(name), &mut buf);
-    run(&buf[..n])
+fn run_file(rt: &(impl Files + Print), name: &str) -> io::Result<Tally> {
+    let mut buf = [0u8; 65536];
+    let n = load(rt, name, &mut buf);
+    run(rt, &buf[..n])
 }
 
 // What a file came to.
-fn report(name: &[u8]) {
-    let tally = run_file(name);
-    io::write_all(STDOUT_FILENO, name);
-    io::write_all(STDOUT_FILENO, b": ");
-    io::print_decimal(STDOUT_FILENO, tally.steps);
-    io::write_all(STDOUT_FILENO, b" steps, ");
-    io::print_decimal(STDOUT_FILENO, tally.batches);
-    io::write_all(STDOUT_FILENO, b" batches, ");
-    io::print_decimal(STDOUT_FILENO, tally.counts);
-    io::write_all(STDOUT_FILENO, b" counts, ");
-    io::print_decimal(STDOUT_FILENO, tally.wrong);
-    io::write_all(STDOUT_FILENO, b" wrong\n");
+fn report(rt: &(impl Files + Print), name: &str) -> io::Result<()> {
+    let tally = run_file(rt, name)?;
+    let steps = tally.steps;
+    let batches = tally.batches;
+    let counts = tally.counts;
+    let wrong = tally.wrong;
+    println!(rt; "{name}: {steps} steps, {batches} batches, {counts} counts, {wrong} wrong")
 }
 
-fn main() {
-    report(b"monitor");
-    report(b"batches");
-    report(b"counts");
-    report(b"editions");
+fn main(rt: HostRuntime) -> io::Result<()> {
+    report(&rt, "monitor")?;
+    report(&rt, "batches")?;
+    report(&rt, "counts")?;
+    report(&rt, "editions")
 }

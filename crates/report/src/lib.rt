@@ -25,7 +25,7 @@ pub fn report(protocol: &[u8], device: &[u8], out: &mut [u8]) -> usize
     if out.len() < n {
         return 0;
     }
-    bytes::copy(&text[..n], out);
+    out[..n].copy_from_slice(&text[..n]);
     n
 }
 

@@ -1,2 +1,0 @@
--- Laws are what the functions' proofs cite.
-pub mod laws

@@ -1,2 +1,0 @@
--- Laws, each file named for the definition that it is about.
-pub mod LentState
