@@ -14,7 +14,7 @@ use Rattle.grammar.proofs.laws.Questions.{asked}
 use Rattle.grammar.specs.Token.{token}
 use Rattle.grammar.specs.inner.Scanner.{class_of, word_token, name_token, number_token, dots_token, begin_at, token_at, tokens_from, tokens}
 use Rattle.grammar.specs.Building.{Built, denied}
-use Rattle.grammar.specs.Reading.{State, start, token_formed, taken, run_tokens, questions}
+use Rattle.grammar.specs.Reading.{State, token_formed, taken, run_tokens, questions}
 use Rattle.grammar.specs.Grammar.{Tok}
 use Rattle.grammar.specs.declared.token.Class.{Class}
 use Rattle.grammar.specs.declared.token.Class.TheVariants.{Space, Lower, Upper, Digit, Dot, Minus, Sign, Other}

@@ -13,7 +13,7 @@ use Rattle.table.specs.Table.{Branch, Table}
 use Rattle.grammar.specs.Token.{word_in}
 use Rattle.grammar.specs.inner.Scanner.{token_at}
 use Rattle.grammar.specs.Building.{add_state, add_branch, add_share, choice_right, came, denied, Built}
-use Rattle.grammar.specs.Reading.{low, sign_of, choice_sort}
+use Rattle.grammar.specs.Reading.{sign_of, choice_sort}
 use Rattle.text.specs.inner.Recursive.{unexpected_at, expect_at, fields_at, shared_at, bound_in, bind_in, find, since, open_rec, label_at, branch_of, then_read, with_fields, with_count, body_at, headed, head_at, aim_last, name_used, name_type, end_type, open_choice, Reader, unless, end_of_branch, branch_then, branches_read, choice_type, rec_type, read_type, Env}
 use Rattle.grammar.specs.declared.token.Token.{Token}
 use Rattle.text.specs.declared.step.Step.{Step}

@@ -18,7 +18,7 @@ use Rattle.grammar.specs.inner.Scanner.{token_at, tokens}
 use Rattle.grammar.specs.Grammar.{or_else}
 use Rattle.grammar.specs.Number.{signed_in, in_count}
 use Rattle.grammar.specs.Building.{stateless, set_edition, empty_branch, labelled, aimed, add_state, add_branch, add_share, label_used, choice_right, came, denied, Built}
-use Rattle.grammar.specs.Reading.{Item, edition, just, name, label, type, more, fields, dot, Open, a_rec, a_choice, State, state, meaning, unguarded, closed, token_formed, grammar_allows, edition_known, is_found, name_bound, guarded, ranged, share_ranged, new_label, within_limits, shares_add, sign_of, choice_sort, a_branch, stored, taken, run_tokens, start, built, reads, questions}
+use Rattle.grammar.specs.Reading.{Item, edition, just, name, label, type, more, fields, dot, Open, a_rec, a_choice, State, state, meaning, unguarded, closed, token_formed, grammar_allows, edition_known, is_found, name_bound, guarded, ranged, share_ranged, new_label, within_limits, shares_add, sign_of, choice_sort, a_branch, stored, taken, run_tokens, start, built, questions}
 use Rattle.text.specs.inner.Recursive.{count_read, count_from, edition_at, opening_from, opening_of, label_from, name_read, unexpected_at, expect_at, fields_at, shared_at, empty_env, Room, bound_in, bind_in, find_in, find, since_in, since, rec_named, open_rec, label_at, branch_of, then_read, with_fields, with_count, body_at, headed, head_at, last_aimed, aim_last, name_used, name_type, end_type, open_choice, unless, end_of_branch, branch_then, branches_read, choice_type, rec_type, read_type, end_of_text, read_text, Env}
 use Rattle.grammar.specs.declared.token.Token.{Token}
 use Rattle.text.specs.declared.step.Step.{Step}

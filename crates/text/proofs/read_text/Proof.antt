@@ -7,29 +7,29 @@ use Rattle.text.proofs.laws.ReadText.{text_long, opening_refused, text_refused, 
 use Rattle.text.proofs.read_text.Statement.{statement}
 use Rattle.text.proofs.read_text.Tie as tie
 
-returns : tie.Need-returns
-returns c = text_long _ _ c.if1.true
+returns : tie.Need-returns-then-text-gt-BYTES
+returns c = text_long _ _ c.if-text-gt-BYTES.true
 
-returns-2 : tie.Need-returns-2
-returns-2 c = opening_refused _ c.before.before.before.before.if1.false _ _ c.before.before.read-opening.ensures c.if2.true
+returns-2 : tie.Need-returns-then-o-ne0
+returns-2 c = opening_refused _ c.before.before.before.before.if-text-gt-BYTES.false _ _ c.before.before.read_opening-o.ensures c.if-o-ne0.true
 
-read-type-requires : tie.Need-read-type-requires
-read-type-requires c κs = subst (λ (e : Env). Room e 16) (sym c.before.before.empty_env.ensures) room_empty
+read-type-requires : tie.Need-read_type-b-requires
+read-type-requires c κs = subst (λ (e : Env). Room e 16) (sym c.before.before.empty_env-env.ensures) room_empty
 
-returns-3 : tie.Need-returns-3
+returns-3 : tie.Need-returns-then-b-ne0
 returns-3 c =
-    text_refused _ c.before.before.before.before.before.before.before.before.before.before.if1.false _ _ c.before.before.before.before.before.before.before.before.read-opening.ensures c.before.before.before.before.before.before.if2.false _ _ _
-    c.before.before.before.before.before.empty_env.ensures c.before.before.read_type.ensures c.if3.true
+    text_refused _ c.before.before.before.before.before.before.before.before.before.before.if-text-gt-BYTES.false _ _ c.before.before.before.before.before.before.before.before.read_opening-o.ensures c.before.before.before.before.before.before.if-o-ne0.false _ _ _
+    c.before.before.before.before.before.empty_env-env.ensures c.before.before.read_type-b.ensures c.if-b-ne0.true
 
-returns-4 : tie.Need-returns-4
+returns-4 : tie.Need-returns-then-k-ne-OUT
 returns-4 c =
-    text_wrong _ c.before.before.before.before.before.before.before.before.before.before.before.before.before.before.if1.false _ _ c.before.before.before.before.before.before.before.before.before.before.before.before.read-opening.ensures c.before.before.before.before.before.before.before.before.before.before.if2.false _ _ _
-    c.before.before.before.before.before.before.before.before.before.empty_env.ensures c.before.before.before.before.before.before.read_type.ensures c.before.before.before.before.if3.false _ c.before.before.before.token_at.ensures.0 _ c.before.if4.true c.unexpected.ensures
+    text_wrong _ c.before.before.before.before.before.before.before.before.before.before.before.before.before.before.if-text-gt-BYTES.false _ _ c.before.before.before.before.before.before.before.before.before.before.before.before.read_opening-o.ensures c.before.before.before.before.before.before.before.before.before.before.if-o-ne0.false _ _ _
+    c.before.before.before.before.before.before.before.before.before.empty_env-env.ensures c.before.before.before.before.before.before.read_type-b.ensures c.before.before.before.before.if-b-ne0.false _ c.before.before.before.token_at-k.ensures.0 _ c.before.if-k-ne-OUT.true c.unexpected.ensures
 
-returns-5 : tie.Need-returns-5
+returns-5 : tie.Need-returns
 returns-5 c =
-    text_read _ c.before.before.before.before.before.before.before.before.before.before.before.before.before.if1.false _ _ c.before.before.before.before.before.before.before.before.before.before.before.read-opening.ensures c.before.before.before.before.before.before.before.before.before.if2.false _ _ _
-    c.before.before.before.before.before.before.before.before.empty_env.ensures c.before.before.before.before.before.read_type.ensures c.before.before.before.if3.false _ c.before.before.token_at.ensures.0 c.if4.false
+    text_read _ c.before.before.before.before.before.before.before.before.before.before.before.before.before.if-text-gt-BYTES.false _ _ c.before.before.before.before.before.before.before.before.before.before.before.read_opening-o.ensures c.before.before.before.before.before.before.before.before.before.if-o-ne0.false _ _ _
+    c.before.before.before.before.before.before.before.before.empty_env-env.ensures c.before.before.before.before.before.read_type-b.ensures c.before.before.before.if-b-ne0.false _ c.before.before.token_at-k.ensures.0 c.if-k-ne-OUT.false
 
 pub read_text_spec : {M : Type 1} → statement M
 read_text_spec =

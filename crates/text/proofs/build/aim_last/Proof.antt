@@ -5,17 +5,17 @@ use Rattle.text.specs.inner.Stores.{put_target}
 use Rattle.text.proofs.build.aim_last.Statement.{statement}
 use Rattle.text.proofs.build.aim_last.Tie as tie
 
-returns : tie.Need-returns
+returns : tie.Need-returns-then-m-le-BRANCHES
 unfolding put_target
-returns c = rw (lt-ltb _ _ c.before.if1.true, le-leb _ _ c.if2.true)
+returns c = rw (lt-ltb _ _ c.before.if-m-gt0.true, le-leb _ _ c.if-m-le-BRANCHES.true)
 
-returns-2 : tie.Need-returns-2
+returns-2 : tie.Need-returns-else-m-le-BRANCHES
 unfolding put_target
-returns-2 c = rw (lt-ltb _ _ c.before.if1.true, lt-leb _ _ c.if2.false)
+returns-2 c = rw (lt-ltb _ _ c.before.if-m-gt0.true, lt-leb _ _ c.if-m-le-BRANCHES.false)
 
-returns-3 : tie.Need-returns-3
+returns-3 : tie.Need-returns-else-m-gt0
 unfolding put_target
-returns-3 c = rw (le-ltb _ _ c.if1.false)
+returns-3 c = rw (le-ltb _ _ c.if-m-gt0.false)
 
 pub aim_last_spec : {M : Type 1} → statement M
 aim_last_spec =

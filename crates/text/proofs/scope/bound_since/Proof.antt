@@ -8,32 +8,32 @@ use Rattle.text.proofs.laws.FindIn.{since_hit, since_on, since_out}
 use Rattle.text.proofs.scope.bound_since.Statement.{statement}
 use Rattle.text.proofs.scope.bound_since.Tie as tie
 
-abbrev invariant-loop : tie.invariant-loop
+abbrev invariant-loop : tie.invariant-loop-i
 invariant-loop e from name i₀ i = (since e from name ≡ since_in e from i name) × (i ≤ 16)
 
-abbrev decreases-loop : tie.decreases-loop
+abbrev decreases-loop : tie.decreases-loop-i
 decreases-loop e from name i₀ i = i
 
-loop-holds : tie.Need-loop-init invariant-loop decreases-loop
+loop-holds : tie.Need-loop-i-init invariant-loop decreases-loop
 loop-holds c = (refl, search rules)
 
-returns : tie.Need-returns invariant-loop decreases-loop
+returns : tie.Need-returns-then-label_word-name invariant-loop decreases-loop
 returns c =
     let l = c.before.before.before.before.before in
     let a = c.before.before.before.before.before.before.before.args in
-    sym (l.loop.invariant.0 ∙ since_hit a.e.now a.from l.loop.i a.name c.before.before.before.before.loop-test.true (sym c.before.label_word.ensures ∙ c.if1.true))
+    sym (l.loop-i.invariant.0 ∙ since_hit a.e.now a.from l.loop-i.i a.name c.before.before.before.before.loop-i-test.true (sym c.before.label_word.ensures ∙ c.if-label_word-name.true))
 
-loop-again : tie.Need-loop-preserved invariant-loop decreases-loop
+loop-again : tie.Need-loop-i-preserved invariant-loop decreases-loop
 loop-again c =
     let l = c.before.before.before.before.before in
     let a = c.before.before.before.before.before.before.before.args in
-    (l.loop.invariant.0 ∙ since_on a.e.now a.from l.loop.i a.name c.before.before.before.before.loop-test.true (λ x. c.if1.false (c.before.label_word.ensures ∙ x)), omega arith)
+    (l.loop-i.invariant.0 ∙ since_on a.e.now a.from l.loop-i.i a.name c.before.before.before.before.loop-i-test.true (λ x. c.if-label_word-name.false (c.before.label_word.ensures ∙ x)), omega arith)
 
-returns-2 : tie.Need-returns-2 invariant-loop decreases-loop
+returns-2 : tie.Need-returns invariant-loop decreases-loop
 returns-2 c =
     let l = c.before in
     let a = c.before.before.before.args in
-    sym (l.loop.invariant.0 ∙ since_out a.e.now a.from l.loop.i a.name (omega (arith, c.loop-test.false)))
+    sym (l.loop-i.invariant.0 ∙ since_out a.e.now a.from l.loop-i.i a.name (omega (arith, c.loop-i-test.false)))
 
 pub bound_since_spec : {M : Type 1} → statement M
 bound_since_spec =

@@ -2,25 +2,24 @@
 use mathlib.Core.Path.{sym, ◌∙◌}
 use native.Mathlib.Omega.{arith}
 use borrow.Author.Rules.{rules}
-use borrow.Author.Tests.{not-true}
 use Rattle.text.proofs.laws.ExpectAt.{dot_passed}
 use Rattle.text.proofs.step.expect_dot.Statement.{statement}
 use Rattle.text.proofs.step.expect_dot.Tie as tie
 
-returns : tie.Need-returns
+returns : tie.Need-returns-then-not-is_at
 returns c =
     dot_passed _ _
-    (sym c.before.before.before.is_at.ensures.0 ∙ c.before.before.if1.true)
-    (sym c.before.is-at2.ensures.0 ∙ not-true _ c.if2.true)
+    (sym c.before.before.before.is_at.ensures.0 ∙ c.before.before.if-is_at.true)
+    (sym c.before.is_at-then-is_at.ensures.0 ∙ c.if-not-is_at.true)
 
 pub expect_dot_spec : {M : Type 1} → statement M
 expect_dot_spec =
     tie.close
     (tie.spec
     (λ c κs. search rules)
-    (λ c. omega (arith, c.before.is_at.ensures.1 c.if1.true))
+    (λ c. omega (arith, c.before.is_at.ensures.1 c.if-is_at.true))
     (λ c κs. search rules)
-    (λ c. omega (arith, c.before.before.before.is_at.ensures.1 c.before.before.if1.true))
+    (λ c. omega (arith, c.before.before.before.is_at.ensures.1 c.before.before.if-is_at.true))
     returns
     (λ c κs. search rules)
     (λ c. c.expect.ensures))

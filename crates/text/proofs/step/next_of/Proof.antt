@@ -5,17 +5,17 @@ use Rattle.text.specs.inner.Recursive.{next_of}
 use Rattle.text.proofs.step.next_of.Statement.{statement}
 use Rattle.text.proofs.step.next_of.Tie as tie
 
-returns : tie.Need-returns
+returns : tie.Need-returns-then-k-close
 unfolding next_of
-returns c = simp (eq-eqb _ _ c.if1.true)
+returns c = simp (eq-eqb _ _ c.if-k-close.true)
 
-returns-2 : tie.Need-returns-2
+returns-2 : tie.Need-returns-then-k-eq44
 unfolding next_of
-returns-2 c = simp (ne_eqb _ _ c.before.before.if1.false, eq-eqb _ _ c.if2.true)
+returns-2 c = simp (ne_eqb _ _ c.before.before.if-k-close.false, eq-eqb _ _ c.if-k-eq44.true)
 
-returns-3 : tie.Need-returns-3
+returns-3 : tie.Need-returns
 unfolding next_of
-returns-3 c = simp (ne_eqb _ _ c.before.before.before.if1.false, ne_eqb _ _ c.before.if2.false, ← c.unexpected.ensures)
+returns-3 c = simp (ne_eqb _ _ c.before.before.before.if-k-close.false, ne_eqb _ _ c.before.if-k-eq44.false, ← c.unexpected-u.ensures)
 
 pub next_of_spec : {M : Type 1} → statement M
 next_of_spec = tie.close (tie.spec returns returns-2 (λ c κs. search rules) returns-3)

@@ -10,10 +10,10 @@ use Rattle.grammar.proofs.laws.RunOf.{loop_on, loop_off, loop_out}
 use Rattle.text.proofs.token.dots_end.Statement.{statement}
 use Rattle.text.proofs.token.dots_end.Tie as tie
 
-abbrev invariant-loop : tie.invariant-loop
+abbrev invariant-loop : tie.invariant-loop-i
 invariant-loop s p i₀ i = run_end is_dot s p ≡ run_end is_dot s i
 
-abbrev decreases-loop : tie.decreases-loop
+abbrev decreases-loop : tie.decreases-loop-i
 decreases-loop s p i₀ i = length s - i
 
 pub dots_end_spec : {M : Type 1} → statement M
@@ -24,8 +24,8 @@ dots_end_spec =
     decreases-loop
     (λ c. refl)
     (λ c. omega arith)
-    (λ c. loop_off is_dot _ _ _ c.before.before.before.loop.invariant _ c.before.before.loop-test.true refl (ap not (ne_eqb _ _ c.if1.true)))
+    (λ c. loop_off is_dot _ _ _ c.before.before.before.loop-i.invariant _ c.before.before.loop-i-test.true refl (ap not (ne_eqb _ _ c.if-s-i-ne46.true)))
     (λ c. omega arith)
     (λ c. omega arith)
-    (λ c. loop_on is_dot _ _ _ c.before.before.before.loop.invariant _ c.before.before.loop-test.true refl (ap not (eq-eqb _ _ c.if1.false)))
-    (λ c. loop_out is_dot _ _ _ c.before.loop.invariant c.loop-test.false))
+    (λ c. loop_on is_dot _ _ _ c.before.before.before.loop-i.invariant _ c.before.before.loop-i-test.true refl (ap not (eq-eqb _ _ c.if-s-i-ne46.false)))
+    (λ c. loop_out is_dot _ _ _ c.before.loop-i.invariant c.loop-i-test.false))

@@ -5,14 +5,14 @@ use Rattle.grammar.proofs.laws.ClassOf.{in_lower, in_upper, in_digit}
 use Rattle.text.proofs.token.in_word.Statement.{statement}
 use Rattle.text.proofs.token.in_word.Tie as tie
 
-returns : tie.Need-returns
-returns c = in_lower _ c.if1.true
+returns : tie.Need-returns-then-b-ge97
+returns c = in_lower _ c.if-b-ge97.true
 
-returns-2 : tie.Need-returns-2
-returns-2 c = in_upper _ c.if2.true c.before.if1.false
+returns-2 : tie.Need-returns-then-b-ge65
+returns-2 c = in_upper _ c.if-b-ge65.true c.before.if-b-ge97.false
 
-returns-3 : tie.Need-returns-3
-returns-3 c = c.is_digit.ensures ∙ in_digit _ c.before.if2.false
+returns-3 : tie.Need-returns
+returns-3 c = c.is_digit.ensures ∙ in_digit _ c.before.if-b-ge65.false
 
 pub in_word_spec : {M : Type 1} → statement M
 in_word_spec = tie.close (tie.spec returns returns-2 (λ c κs. search rules) returns-3)

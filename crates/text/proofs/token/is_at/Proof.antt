@@ -5,11 +5,11 @@ use borrow.Author.Tests.{lt-ltb, le-ltb}
 use Rattle.text.proofs.token.is_at.Statement.{statement}
 use Rattle.text.proofs.token.is_at.Tie as tie
 
-returns : tie.Need-returns
-returns c = (rw (lt-ltb _ _ c.before.if1.true), λ e. c.before.if1.true)
+returns : tie.Need-returns-then-p-s
+returns c = (rw (lt-ltb _ _ c.before.if-p-s.true), λ e. c.before.if-p-s.true)
 
-returns-2 : tie.Need-returns-2
-returns-2 c = (rw (le-ltb _ _ c.if1.false), λ e. absurd (false≢true e))
+returns-2 : tie.Need-returns
+returns-2 c = (rw (le-ltb _ _ c.if-p-s.false), λ e. absurd (false≢true e))
 
 pub is_at_spec : {M : Type 1} → statement M
 is_at_spec = tie.close (tie.spec (λ c. search rules) returns returns-2)

@@ -9,11 +9,11 @@ itself : (t : Bool) → t ≡ cond t true false
 itself true = refl
 itself false = refl
 
-returns : tie.Need-returns
-returns c = simp (eq-eqb _ _ c.if1.true)
+returns : tie.Need-returns-then-b-eq32
+returns c = simp (eq-eqb _ _ c.if-b-eq32.true)
 
-returns-2 : tie.Need-returns-2
-returns-2 c = rw (ne_eqb _ _ c.if1.false) (itself _)
+returns-2 : tie.Need-returns
+returns-2 c = rw (ne_eqb _ _ c.if-b-eq32.false) (itself _)
 
 pub is_space_spec : {M : Type 1} → statement M
 is_space_spec = tie.close (tie.spec returns returns-2)

@@ -1,5 +1,6 @@
 -- `text::token::spaces_end` meets its contract. The loop's invariant: from i on the run ends where it ends from the start on. Assumes nothing.
-use mathlib.Core.Path.{◌≡◌, refl}
+use mathlib.Core.Path.{◌≡◌, refl, ap}
+use mathlib.Core.Bool.{not}
 use Prim.Native.Nat.{◌-◌}
 use native.Mathlib.Omega.{arith}
 use borrow.Author.Rules.{rules}
@@ -9,10 +10,10 @@ use Rattle.grammar.proofs.laws.RunOf.{loop_on, loop_off, loop_out}
 use Rattle.text.proofs.token.spaces_end.Statement.{statement}
 use Rattle.text.proofs.token.spaces_end.Tie as tie
 
-abbrev invariant-loop : tie.invariant-loop
+abbrev invariant-loop : tie.invariant-loop-i
 invariant-loop s p i₀ i = run_end is_space s p ≡ run_end is_space s i
 
-abbrev decreases-loop : tie.decreases-loop
+abbrev decreases-loop : tie.decreases-loop-i
 decreases-loop s p i₀ i = length s - i
 
 pub spaces_end_spec : {M : Type 1} → statement M
@@ -25,9 +26,9 @@ spaces_end_spec =
     (λ c. omega arith)
     (λ c κs. search rules)
     (λ c.
-    loop_off is_space _ _ _ c.before.before.before.before.loop.invariant _ c.before.before.before.loop-test.true c.before.is_space.ensures c.if1.true)
+    loop_off is_space _ _ _ c.before.before.before.before.loop-i.invariant _ c.before.before.before.loop-i-test.true c.before.is_space.ensures (ap not c.if-not-is_space.true))
     (λ c. omega arith)
     (λ c. omega arith)
     (λ c.
-    loop_on is_space _ _ _ c.before.before.before.before.loop.invariant _ c.before.before.before.loop-test.true c.before.is_space.ensures c.if1.false)
-    (λ c. loop_out is_space _ _ _ c.before.loop.invariant c.loop-test.false))
+    loop_on is_space _ _ _ c.before.before.before.before.loop-i.invariant _ c.before.before.before.loop-i-test.true c.before.is_space.ensures (ap not c.if-not-is_space.false))
+    (λ c. loop_out is_space _ _ _ c.before.loop-i.invariant c.loop-i-test.false))
