@@ -5,5 +5,4 @@ pub mod CountedStep
 pub mod Judgement
 pub mod Leaves
 pub mod Led
-pub mod Lent
 pub mod PassedOn

@@ -15,7 +15,7 @@ use Rattle.table.specs.declared.Party.{Party}
 use Rattle.table.proofs.laws.Lists.{decided}
 use Rattle.message.specs.Rules.{table_rules}
 use Rattle.conversation.specs.declared.State.{State}
-use Rattle.conversation.specs.Step.{is_running, of_state, refused}
+use Rattle.conversation.specs.Step.{is_running, of_state}
 use Rattle.conversation.specs.Due.{Awaited, sender_awaited, awaited}
 use Rattle.conversation.specs.Due as Due
 use Rattle.conversation.specs.Conversation.{Event, event, played, blamed_first, nobody, Stands}

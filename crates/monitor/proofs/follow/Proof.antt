@@ -9,16 +9,16 @@ use Rattle.monitor.proofs.follow.Tie as tie
 raise-requires : tie.Need-raise-requires
 raise-requires c κs = can_rise _ _ _ _ c.before.requires
 
-add-t8 : tie.Need-overflow-add-t8
+add-t8 : tie.Need-overflow_add-result
 add-t8 c = let p = c.before.before.requires in omega (arith, p.there, (sound_facts _ p.sound).room)
 
-mul-t9 : tie.Need-overflow-mul-t9
+mul-t9 : tie.Need-offset_bounds-t-b
 mul-t9 c = let p = c.before.before.requires in omega (arith, p.there, (sound_facts _ p.sound).room)
 
-element-copy-out-t12 : tie.Need-element-copy-out-t12
+element-copy-out-t12 : tie.Need-bounds-t-b
 element-copy-out-t12 c = let p = c.before.before.requires in omega (arith, p.there, (sound_facts _ p.sound).room)
 
-cast-t13 : tie.Need-overflow-cast-t13
+cast-t13 : tie.Need-overflow_cast-result
 cast-t13 c =
     let p = c.before.before.before.requires in
     let f = sound_facts _ p.sound in

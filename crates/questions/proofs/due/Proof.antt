@@ -11,39 +11,39 @@ use Rattle.conversation.proofs.laws.Due.{first_within}
 use Rattle.questions.proofs.due.Statement.{statement}
 use Rattle.questions.proofs.due.Tie as tie
 
-slice-aggregate-result-2 : tie.Need-slice-aggregate-result-2
+slice-aggregate-result-2 : tie.Need-slice_bounds-result-end-in-Device
 slice-aggregate-result-2 c =
-    let a = c.before.before.before.before.before.before.before.before.before.before.args in
-    sym (length-take-le _ _ (subst (λ n. n ≤ length a.device.now) (sym c.before.first_length.ensures) (first_within a.device.now)))
+    let a = c.args in
+    sym (length-take-le _ _ (subst (λ n. n ≤ length a.device.now) (sym c.first_length-n.ensures) (first_within a.device.now)))
 
-slice-aggregate-result-3 : tie.Need-slice-aggregate-result-3
+slice-aggregate-result-3 : tie.Need-slice_bounds-result-end-in-Host
 slice-aggregate-result-3 c =
-    let a = c.before.before.before.before.before.before.before.before.before.before.args in
-    sym (length-take-le _ _ (subst (λ n. n ≤ length a.host.now) (sym c.before.first-length2.ensures) (first_within a.host.now)))
+    let a = c.args in
+    sym (length-take-le _ _ (subst (λ n. n ≤ length a.host.now) (sym c.first_length-n-in-Host.ensures) (first_within a.host.now)))
 
-returns : tie.Need-returns
+returns : tie.Need-returns-in-Refused
 unfolding counted_due due_at turn_answer
 returns c =
-    let a = c.before.before.before.before.before.before.args in
-    ap (λ o. due_at o a.device a.host) (sym (ap turn_answer c.before.enum_told.given.1) ∙ c.before.before.before.whose-turn.ensures)
+    let a = c.args in
+    ap (λ o. due_at o a.device a.host) (sym (ap turn_answer c.in-Refused.is) ∙ c.whose_turn-turn.ensures)
 
-returns-2 : tie.Need-returns-2
+returns-2 : tie.Need-returns-in-Device
 unfolding counted_due due_at turn_answer
 returns-2 c =
-    let x = c.before.before.before.before.before in
-    let a = x.before.before.before.before.before.args in
-    ap (cut a.device) c.before.first_length.ensures
+    let x = c in
+    let a = x.args in
+    ap (cut a.device) c.first_length-n.ensures
     ∙ ap (λ o. due_at o a.device a.host)
-    (sym (ap turn_answer x.turn.given.1 ∙ ap of_side c.before.before.enum-told2.given.1) ∙ x.before.before.whose-turn.ensures)
+    (sym (ap turn_answer x.in-Of.is ∙ ap of_side c.in-Device.is) ∙ x.whose_turn-turn.ensures)
 
-returns-3 : tie.Need-returns-3
+returns-3 : tie.Need-returns-in-Host
 unfolding counted_due due_at turn_answer
 returns-3 c =
-    let x = c.before.before.before.before.before in
-    let a = x.before.before.before.before.before.args in
-    ap (cut a.host) c.before.first-length2.ensures
+    let x = c in
+    let a = x.args in
+    ap (cut a.host) c.first_length-n-in-Host.ensures
     ∙ ap (λ o. due_at o a.device a.host)
-    (sym (ap turn_answer x.turn.given.1 ∙ ap of_side c.before.before.enum-told3.given.1) ∙ x.before.before.whose-turn.ensures)
+    (sym (ap turn_answer x.in-Of.is ∙ ap of_side c.in-Host.is) ∙ x.whose_turn-turn.ensures)
 
 pub due_spec : {M : Type 1} → statement M
 due_spec =

@@ -8,19 +8,19 @@ use Rattle.conversation.proofs.laws.Due.{bad_front, head_parts, not_all_there, a
 use Rattle.questions.proofs.first_length.Statement.{statement}
 use Rattle.questions.proofs.first_length.Tie as tie
 
-returns : tie.Need-returns
+returns : tie.Need-returns-then-head-ne0
 unfolding front_of
-returns c = sym (bad_front _ (λ e. c.if1.true (ap (λ (h : Head). h.question) c.before.before.front.ensures ∙ e)))
+returns c = sym (bad_front _ (λ e. c.if-head-ne0.true (ap (λ (h : Head). h.question) c.before.before.front-head.ensures ∙ e)))
 
-returns-2 : tie.Need-returns-2
+returns-2 : tie.Need-returns-then-bytes-head
 returns-2 c =
-    let h = head_parts c.before.before.before.before.before.before.args.bytes.now _ c.before.before.before.before.front.ensures c.before.before.if1.false in
-    sym (not_all_there _ h.0 (omega (arith, h.1, c.if2.true)))
+    let h = head_parts c.before.before.before.before.before.before.args.bytes.now _ c.before.before.before.before.front-head.ensures c.before.before.if-head-ne0.false in
+    sym (not_all_there _ h.0 (omega (arith, h.1, c.if-bytes-head.true)))
 
-returns-3 : tie.Need-returns-3
+returns-3 : tie.Need-returns
 returns-3 c =
-    let h = head_parts c.before.before.before.before.before.before.args.bytes.now _ c.before.before.before.before.front.ensures c.before.before.if1.false in
-    h.1 ∙ sym (all_there _ h.0 (omega (arith, h.1, c.if2.false)))
+    let h = head_parts c.before.before.before.before.before.before.args.bytes.now _ c.before.before.before.before.front-head.ensures c.before.before.if-head-ne0.false in
+    h.1 ∙ sym (all_there _ h.0 (omega (arith, h.1, c.if-bytes-head.false)))
 
 pub first_length_spec : {M : Type 1} → statement M
 first_length_spec = tie.close (tie.spec (λ c κs. search rules) returns returns-2 returns-3)

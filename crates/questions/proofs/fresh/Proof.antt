@@ -3,33 +3,33 @@ use mathlib.Core.Path.{sym, ◌∙◌}
 use native.Mathlib.Omega.{arith}
 use lib.Dec.{leb}
 use borrow.Author.Rules.{rules}
-use borrow.Author.Tests.{not-true, not-false, leb-true}
+use borrow.Author.Tests.{leb-true}
 use Rattle.table.proofs.laws.Lists.{both}
 use Rattle.conversation.specs.Counts.{legal_setting}
 use Rattle.conversation.proofs.laws.Counts.{starts_not, starts_nowhere, starts}
 use Rattle.questions.proofs.fresh.Statement.{statement}
 use Rattle.questions.proofs.fresh.Tie as tie
 
-returns : tie.Need-returns
-returns c = c.start.ensures ∙ sym (starts_not _ _ (sym c.before.before.sound.ensures ∙ not-true _ c.before.if1.true))
+returns : tie.Need-returns-then-not-sound
+returns c = c.start.ensures ∙ sym (starts_not _ _ (sym c.before.before.sound.ensures ∙ c.before.if-not-sound.true))
 
-returns-2 : tie.Need-returns-2
+returns-2 : tie.Need-returns-then-not-setting_legal
 returns-2 c =
-    c.start2.ensures
-    ∙ sym (starts_nowhere _ _ (sym c.before.before.before.before.sound.ensures ∙ not-false _ c.before.before.before.if1.false)
-    (sym c.before.before.setting-legal.ensures ∙ not-true _ c.before.if2.true))
+    c.start-then-not-setting_legal.ensures
+    ∙ sym (starts_nowhere _ _ (sym c.before.before.before.before.sound.ensures ∙ c.before.before.before.if-not-sound.false)
+    (sym c.before.before.setting_legal.ensures ∙ c.before.if-not-setting_legal.true))
 
-cast-start : tie.Need-overflow-cast-start
+cast-start : tie.Need-overflow_cast-setting
 unfolding legal_setting
 cast-start c =
     let z = c.before.before.before.before.args.setting in
-    omega (arith, leb-true z 1000 (both (leb 1 z) (leb z 1000) (sym c.before.setting-legal.ensures ∙ not-false _ c.if2.false)).1)
+    omega (arith, leb-true z 1000 (both (leb 1 z) (leb z 1000) (sym c.before.setting_legal.ensures ∙ c.if-not-setting_legal.false)).1)
 
-returns-3 : tie.Need-returns-3
+returns-3 : tie.Need-returns
 returns-3 c =
-    c.start3.ensures
-    ∙ sym (starts _ _ (sym c.before.before.before.before.sound.ensures ∙ not-false _ c.before.before.before.if1.false)
-    (sym c.before.before.setting-legal.ensures ∙ not-false _ c.before.if2.false))
+    c.start-2.ensures
+    ∙ sym (starts _ _ (sym c.before.before.before.before.sound.ensures ∙ c.before.before.before.if-not-sound.false)
+    (sym c.before.before.setting_legal.ensures ∙ c.before.if-not-setting_legal.false))
 
 pub fresh_spec : {M : Type 1} → statement M
 fresh_spec =

@@ -13,25 +13,25 @@ use Rattle.questions.proofs.laws.CountedTurn.{turn_refused, turn_passed}
 use Rattle.questions.proofs.whose_turn.Statement.{statement}
 use Rattle.questions.proofs.whose_turn.Tie as tie
 
-returns : tie.Need-returns
+returns : tie.Need-returns-then-q-ne0
 unfolding turn_answer
-returns c = sym (turn_refused _ _ _ _ c.before.of_state.ensures c.if1.true)
+returns c = sym (turn_refused _ _ _ _ c.of_state-q.ensures c.if-q-ne0.true)
 
 -- 9, on the counts, too, 10 and 11 got a yes
-asked : (c : tie.Else1)
-    → let a = c.before.before.args in (counts_sound a.t.now a.c.now ≡ true) × (first_no (of_state a.t.now a.s) ≡ 0)
-asked c = nine_yes _ _ (sym c.before.of_state.ensures ∙ c.if1.false)
+asked : (c : tie.Else-q-ne0)
+    → let a = c.args in (counts_sound a.t.now a.c.now ≡ true) × (first_no (of_state a.t.now a.s) ≡ 0)
+asked c = nine_yes _ _ (sym c.of_state-q.ensures ∙ c.if-q-ne0.false)
 
-element-copy-out-if2 : tie.Need-element-copy-out-if2
-element-copy-out-if2 c = let o = opened _ _ (asked c).1 in omega (arith, o.below, o.facts.few)
+element-copy-out-if2 : tie.Need-bounds-t-position
+element-copy-out-if2 c = let o = opened _ _ (asked c.before).1 in omega (arith, o.below, o.facts.few)
 
-returns-2 : tie.Need-returns-2
+returns-2 : tie.Need-returns-then-t-position-eq1
 unfolding turn_answer
-returns-2 c = let e = asked c.before.before in sym (turn_passed _ _ _ e.0 ∙ device_awaited _ _ e.1 c.if2.true)
+returns-2 c = let e = asked c.before.before.before in sym (turn_passed _ _ _ e.0 ∙ device_awaited _ _ e.1 c.if-t-position-eq1.true)
 
-returns-3 : tie.Need-returns-3
+returns-3 : tie.Need-returns
 unfolding turn_answer
-returns-3 c = let e = asked c.before.before in sym (turn_passed _ _ _ e.0 ∙ host_awaited _ _ e.1 c.if2.false)
+returns-3 c = let e = asked c.before.before.before in sym (turn_passed _ _ _ e.0 ∙ host_awaited _ _ e.1 c.if-t-position-eq1.false)
 
 pub whose_turn_spec : {M : Type 1} → statement M
 whose_turn_spec =

@@ -3,7 +3,6 @@ use mathlib.Core.Path.{◌≡◌, refl, sym, ◌∙◌}
 use native.Mathlib.Omega.{arith}
 use lib.ListN.{length}
 use borrow.Author.Rules.{rules}
-use borrow.Author.Tests.{not-true, not-false}
 use Rattle.table.specs.Lists.{first_no}
 use Rattle.conversation.specs.Step.{told}
 use Rattle.conversation.specs.Batch.{at_side, each_side, lent, batch_questions, begun, last_of, batched}
@@ -13,71 +12,71 @@ use Rattle.monitor.proofs.laws.Led.{begun_on, turn_less, turn_forwarded, led_fur
 use Rattle.monitor.proofs.batch.batch.Statement.{statement}
 use Rattle.monitor.proofs.batch.batch.Tie as tie
 
-abbrev invariant-loop : tie.invariant-loop
+abbrev invariant-loop : tie.invariant-loop-next
 invariant-loop t c₀ device host to-device₀ to-host₀ q b₀ c to_device to_host b =
     Led t (bytes_waiting device host) (batched b₀ c₀ to-device₀ to-host₀) (batched b c to_device to_host)
     × (length to_device ≡ length to-device₀) × (length to_host ≡ length to-host₀)
 
 -- the bytes that are left
-abbrev decreases-loop : tie.decreases-loop
+abbrev decreases-loop : tie.decreases-loop-next
 decreases-loop t c₀ device host to-device₀ to-host₀ q b₀ c to_device to_host b = left (bytes_waiting device host) (batched b c to_device to_host).lanes
 
 -- 9 and 10 got a yes
-asked : (c : tie.Else1 invariant-loop decreases-loop) → let a = c.before.before.before.before.before.before.before.args in first_no (batch_questions a.t.now a.s a.c.now) ≡ 0
-asked c = sym c.before.of-batch.ensures ∙ c.if1.false
+asked : (c : tie.Else-q-ne0 invariant-loop decreases-loop) → let a = c.args in first_no (batch_questions a.t.now a.s a.c.now) ≡ 0
+asked c = sym c.of_batch-q.ensures ∙ c.if-q-ne0.false
 
 -- where the loop begins, and where it is, turns may go on
-begun-so : (c : tie.After-begun2 invariant-loop decreases-loop)
-    → let a = c.before.before.before.before.before.before.before.before.args in On a.t.now (bytes_waiting a.device.now a.host.now) (batched c.begun2.result a.c.now a.to_device.now a.to_host.now)
+begun-so : (c : tie.After-begun-b invariant-loop decreases-loop)
+    → let a = c.args in On a.t.now (bytes_waiting a.device.now a.host.now) (batched c.begun-b.result a.c.now a.to_device.now a.to_host.now)
 unfolding batched begun last_of lent at_side each_side
 begun-so c =
-    let a = c.before.before.before.before.before.before.before.before.args in
-    rw c.begun2.ensures (begun_on _ _ (lent a.device.now a.host.now a.to_device.now a.to_host.now) _ _ (asked c.before))
+    let a = c.args in
+    rw c.begun-b.ensures (begun_on _ _ (lent a.device.now a.host.now a.to_device.now a.to_host.now) _ _ (asked c.before))
 
-on : (c : tie.At-loop invariant-loop decreases-loop)
-    → let a = c.before.before.before.before.before.before.before.before.before.args in On a.t.now (bytes_waiting a.device.now a.host.now) (batched c.loop.b c.loop.c c.loop.to_device c.loop.to_host)
-on c = led_on _ _ _ (begun-so c.before) c.loop.invariant.0
+on : (c : tie.At-loop-next invariant-loop decreases-loop)
+    → let a = c.args in On a.t.now (bytes_waiting a.device.now a.host.now) (batched c.loop-next.b c.loop-next.c c.loop-next.to_device c.loop-next.to_host)
+on c = led_on _ _ _ (begun-so c.before) c.loop-next.invariant.0
 
-returns : tie.Need-returns invariant-loop decreases-loop
+returns : tie.Need-returns-then-q-ne0 invariant-loop decreases-loop
 unfolding batched begun last_of told lent at_side each_side
-returns c = rw c.begun.ensures (kept_out _ _ _ _ _ c.before.before.of-batch.ensures c.before.if1.true)
+returns c = rw c.begun.ensures (kept_out _ _ _ _ _ c.of_batch-q.ensures c.if-q-ne0.true)
 
-loop-holds : tie.Need-loop-init invariant-loop decreases-loop
+loop-holds : tie.Need-loop-next-init invariant-loop decreases-loop
 loop-holds c = (no_turn, refl, refl)
 
-straight-on-requires : tie.Need-straight-on-requires invariant-loop decreases-loop
+straight-on-requires : tie.Need-straight_on-far-requires invariant-loop decreases-loop
 straight-on-requires c κs = on c.before.before.before
 
-turn-requires : tie.Need-turn-requires invariant-loop decreases-loop
-turn-requires c κs = led_on _ _ _ (on c.before.before.before.before.before.before.before.before.before.before.before) c.before.before.before.before.before.before.before.straight-on.ensures
+turn-requires : tie.Need-turn-r-requires invariant-loop decreases-loop
+turn-requires c κs = led_on _ _ _ (on c.before.before.before.before.before.before.before.before.before.before.before) c.straight_on-far.ensures
 
-same_length : tie.Need-same-length invariant-loop decreases-loop
-same_length c = c.before.before.before.before.before.before.to-device2.given ∙ c.before.before.before.before.before.before.before.before.before.before.before.before.before.before.to_device.given ∙ c.before.before.before.before.before.before.before.before.before.before.before.before.before.before.before.before.before.before.before.loop.invariant.1
+same_length : tie.Need-shape_of-to_device-then-not-is_forwarded invariant-loop decreases-loop
+same_length c = c.to_device-in-loop-next-1.given ∙ c.to_device-1.given ∙ c.loop-next.invariant.1
 
-same-length-2 : tie.Need-same-length-2 invariant-loop decreases-loop
-same-length-2 c = c.before.before.before.before.to-host2.given ∙ c.before.before.before.before.before.before.before.before.before.before.before.before.to_host.given ∙ c.before.before.before.before.before.before.before.before.before.before.before.before.before.before.before.before.before.before.before.loop.invariant.2
+same-length-2 : tie.Need-shape_of-to_host-then-not-is_forwarded invariant-loop decreases-loop
+same-length-2 c = c.to_host-in-loop-next-1.given ∙ c.to_host-1.given ∙ c.loop-next.invariant.2
 
-returns-2 : tie.Need-returns-2 invariant-loop decreases-loop
+returns-2 : tie.Need-returns-then-not-is_forwarded invariant-loop decreases-loop
 unfolding batched begun last_of lent at_side each_side
 returns-2 c =
-    let l = led_further _ _ c.before.before.before.before.before.before.before.before.before.before.before.before.before.before.before.before.before.before.before.loop.invariant.0 c.before.before.before.before.before.before.before.before.before.before.before.before.before.before.before.straight-on.ensures in
-    led_over _ _ _ (begun-so c.before.before.before.before.before.before.before.before.before.before.before.before.before.before.before.before.before.before.before.before) l _ c.before.before.before.before.before.before.before.turn.ensures (sym c.before.is_forwarded.ensures ∙ not-true _ c.if2.true)
-    ∙ rw c.before.before.before.before.before.before.before.before.before.before.before.before.before.before.before.before.before.before.before.before.begun2.ensures (same_turns _ _ _ _ _ _ _ ∙ let_in _ _ _ _ (asked c.before.before.before.before.before.before.before.before.before.before.before.before.before.before.before.before.before.before.before.before.before))
+    let l = led_further _ _ c.loop-next.invariant.0 c.straight_on-far.ensures in
+    led_over _ _ _ (begun-so c.before.before.before.before.before.before.before.before.before.before.before.before.before.before.before.before.before.before.before.before) l _ c.turn-r.ensures (sym c.is_forwarded.ensures ∙ c.if-not-is_forwarded.true)
+    ∙ rw c.begun-b.ensures (same_turns _ _ _ _ _ _ _ ∙ let_in _ _ _ _ (asked c.before.before.before.before.before.before.before.before.before.before.before.before.before.before.before.before.before.before.before.before.before))
 
-loop-less : tie.Need-loop-smaller invariant-loop decreases-loop
+loop-less : tie.Need-loop-next-smaller invariant-loop decreases-loop
 loop-less c =
     let o = on c.before.before.before.before.before.before.before.before.before.before.before.before.before.before.before.before.before.before.before in
-    let s = c.before.before.before.before.before.before.before.before.before.before.before.before.before.before.before.straight-on.ensures in
-    let e = turn_forwarded _ _ _ _ c.before.before.before.before.before.before.before.turn.ensures (sym c.before.is_forwarded.ensures ∙ not-false _ c.if2.false) in
+    let s = c.straight_on-far.ensures in
+    let e = turn_forwarded _ _ _ _ c.turn-r.ensures (sym c.is_forwarded.ensures ∙ c.if-not-is_forwarded.false) in
     omega (arith, led_less _ _ _ o s, turn_less _ _ _ _ (led_on _ _ _ o s) e)
 
-loop-again : tie.Need-loop-preserved invariant-loop decreases-loop
+loop-again : tie.Need-loop-next-preserved invariant-loop decreases-loop
 loop-again c =
-    let l = c.before.before.before.before.before.before.before.before.before.before.before.before.before.before.before.before.before.before.before.loop.invariant in (
-      a_turn (led_further _ _ l.0 c.before.before.before.before.before.before.before.before.before.before.before.before.before.before.before.straight-on.ensures)
-          (turn_forwarded _ _ _ _ c.before.before.before.before.before.before.before.turn.ensures (sym c.before.is_forwarded.ensures ∙ not-false _ c.if2.false)),
-      c.before.before.before.before.before.before.to-device2.given ∙ c.before.before.before.before.before.before.before.before.before.before.before.before.before.before.to_device.given ∙ l.1,
-      c.before.before.before.before.to-host2.given ∙ c.before.before.before.before.before.before.before.before.before.before.before.before.to_host.given ∙ l.2,
+    let l = c.loop-next.invariant in (
+      a_turn (led_further _ _ l.0 c.straight_on-far.ensures)
+          (turn_forwarded _ _ _ _ c.turn-r.ensures (sym c.is_forwarded.ensures ∙ c.if-not-is_forwarded.false)),
+      c.to_device-in-loop-next-1.given ∙ c.to_device-1.given ∙ l.1,
+      c.to_host-in-loop-next-1.given ∙ c.to_host-1.given ∙ l.2,
     )
 
 pub batch_spec : {M : Type 1} → statement M

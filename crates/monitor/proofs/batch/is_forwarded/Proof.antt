@@ -7,21 +7,21 @@ use Rattle.conversation.specs.inner.Keeping.{is_last_forwarded}
 use Rattle.monitor.proofs.batch.is_forwarded.Statement.{statement}
 use Rattle.monitor.proofs.batch.is_forwarded.Tie as tie
 
-returns : tie.Need-returns
+returns : tie.Need-returns-in_default
 unfolding is_last_forwarded is_forwarded last_of
-returns c = rw c.enum_told.given.1
+returns c = rw c.in_default.is
 
-returns-2 : tie.Need-returns-2
+returns-2 : tie.Need-returns-in-Refused
 unfolding is_last_forwarded is_forwarded last_of told
-returns-2 c = rw (c.before.before.before.answer.given.1, c.enum-told2.given.1)
+returns-2 c = rw (c.in-Answer.is, c.in-Refused.is)
 
-returns-3 : tie.Need-returns-3
+returns-3 : tie.Need-returns-in-Blamed
 unfolding is_last_forwarded is_forwarded last_of told
-returns-3 c = rw (c.before.before.before.answer.given.1, c.enum-told3.given.1)
+returns-3 c = rw (c.in-Answer.is, c.in-Blamed.is)
 
-returns-4 : tie.Need-returns-4
+returns-4 : tie.Need-returns-in-Forwarded
 unfolding is_last_forwarded is_forwarded last_of told
-returns-4 c = rw (c.before.before.before.answer.given.1, c.enum-told4.given.1)
+returns-4 c = rw (c.in-Answer.is, c.in-Forwarded.is)
 
 pub is_forwarded_spec : {M : Type 1} → statement M
 is_forwarded_spec =

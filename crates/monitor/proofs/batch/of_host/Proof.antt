@@ -6,7 +6,7 @@ use Rattle.monitor.proofs.batch.of_host.Tie as tie
 
 returns : tie.Need-returns
 unfolding set_side took batched
-returns c = λ s k d td th before. rw c.before.before.before.latest.ensures
+returns c = λ s k d td th before. rw c.before.before.before.latest-last.ensures
 
 pub of_host_spec : {M : Type 1} → statement M
 of_host_spec = tie.close (tie.spec (λ c κs. search rules) returns)

@@ -26,10 +26,10 @@ module _ (s : tie.Start) (j : ℕ) (b : j < 8) where
   writes = rw stores_length (omega arith)
 
 -- what is known after the reads begins with the start
-abbrev start : tie.After-shared-slice-known8 → tie.Start
+abbrev start : tie.After-shared_slice_known-8-1 → tie.Start
 start c = c.before.before.before.before.before.before.before.before
 
-same_length : tie.Need-same-length
+same_length : tie.Need-shape_of-out
 unfolding stores
 same_length c = stores_length (start c).args.message.now (start c).args.out.now (start c).args.at 8
 

@@ -8,43 +8,43 @@ use Rattle.monitor.proofs.laws.Copied.{front, front_length, front_more, front_al
 use Rattle.monitor.proofs.copy.to_front.Statement.{statement}
 use Rattle.monitor.proofs.copy.to_front.Tie as tie
 
-abbrev invariant-loop : tie.invariant-loop
+abbrev invariant-loop : tie.invariant-loop-done
 invariant-loop message out₀ last done₀ out done =
     (done ≤ length message) × (last + 8 ≡ length message) × (length message ≤ length out₀) × (out ≡ front message out₀ done)
 
-abbrev decreases-loop : tie.decreases-loop
+abbrev decreases-loop : tie.decreases-loop-done
 decreases-loop message out₀ last done₀ out done = length message - done
 
-loop-holds : tie.Need-loop-init invariant-loop decreases-loop
+loop-holds : tie.Need-loop-done-init invariant-loop decreases-loop
 loop-holds c = (search rules, omega arith, search rules, refl)
 
 eight-requires : tie.Need-eight-requires invariant-loop decreases-loop
 eight-requires c κs =
-    let i = c.before.before.before.loop.invariant in
+    let i = c.before.before.before.loop-done.invariant in
     let l = ap length i.3 ∙ front_length _ _ _ i.0 i.2 in
-    (omega (arith, c.before.lesser.ensures), omega (arith, l, c.before.lesser.ensures))
+    (omega (arith, c.before.lesser-at.ensures), omega (arith, l, c.before.lesser-at.ensures))
 
-add_done : tie.Need-overflow-add-done invariant-loop decreases-loop
-add_done c = record { fits = omega (arith, c.before.before.before.before.lesser.ensures) }
+add_done : tie.Need-overflow_add-done invariant-loop decreases-loop
+add_done c = record { fits = omega (arith, c.before.before.before.before.lesser-at.ensures) }
 
-loop-less : tie.Need-loop-smaller invariant-loop decreases-loop
-loop-less c = omega (arith, c.before.before.before.before.lesser.ensures)
+loop-less : tie.Need-loop-done-smaller invariant-loop decreases-loop
+loop-less c = omega (arith, c.before.before.before.before.lesser-at.ensures)
 
-loop-again : tie.Need-loop-preserved invariant-loop decreases-loop
+loop-again : tie.Need-loop-done-preserved invariant-loop decreases-loop
 loop-again c =
-    let i = c.before.before.before.before.before.before.loop.invariant in
-    let e = c.before.before.before.before.lesser.ensures in (
+    let i = c.before.before.before.before.before.before.loop-done.invariant in
+    let e = c.before.before.before.before.lesser-at.ensures in (
       omega (arith, e),
       omega arith,
       search rules,
-      c.before.before.eight.ensures ∙ front_more _ _ c.before.before.before.before.before.before.loop.done c.before.before.before.before.lesser.result i.3 (omega (arith, e)) (omega (arith, e)) i.0 (omega (arith, e)),
+      c.before.before.eight.ensures ∙ front_more _ _ c.before.before.before.before.before.before.loop-done.done c.before.before.before.before.lesser-at.result i.3 (omega (arith, e)) (omega (arith, e)) i.0 (omega (arith, e)),
     )
 
-same_length : tie.Need-same-length invariant-loop decreases-loop
-same_length c = let i = c.before.loop.invariant in ap length i.3 ∙ front_length _ _ _ i.0 i.2
+same_length : tie.Need-shape_of-out invariant-loop decreases-loop
+same_length c = let i = c.before.loop-done.invariant in ap length i.3 ∙ front_length _ _ _ i.0 i.2
 
 returns : tie.Need-returns invariant-loop decreases-loop
-returns c = c.before.loop.invariant.3 ∙ front_all _ _ c.before.loop.done (omega arith)
+returns c = c.before.loop-done.invariant.3 ∙ front_all _ _ c.before.loop-done.done (omega arith)
 
 pub to_front_spec : {M : Type 1} → statement M
 to_front_spec =

@@ -3,7 +3,6 @@ use mathlib.Core.Path.{◌≡◌, sym, ap, refl, ◌∙◌}
 use mathlib.Core.Bool.{true, false}
 use native.Mathlib.Omega.{arith}
 use borrow.Author.Rules.{rules}
-use borrow.Author.Tests.{not-true, not-false}
 use Rattle.message.specs.Message.{legal_texts}
 use Rattle.message.proofs.laws.Message.{whole_parts}
 use Rattle.conversation.specs.Step.{told, Outcome, refusing, outcome}
@@ -15,45 +14,45 @@ use Rattle.monitor.proofs.lane.heard.Statement.{statement}
 use Rattle.monitor.proofs.lane.heard.Tie as tie
 
 -- what the texts were asked
-texts-no : (c : tie.Then1) → legal_texts c.before.before.before.before.args.message.now ≡ false
-texts-no c = sym c.before.legal_texts.ensures ∙ not-true _ c.if1.true
+texts-no : (c : tie.Then-not-legal_texts) → legal_texts c.args.message.now ≡ false
+texts-no c = sym c.legal_texts.ensures ∙ c.if-not-legal_texts.true
 
-texts-yes : (c : tie.Else1) → legal_texts c.before.before.before.before.args.message.now ≡ true
-texts-yes c = sym c.before.legal_texts.ensures ∙ not-false _ c.if1.false
+texts-yes : (c : tie.Else-not-legal_texts) → legal_texts c.args.message.now ≡ true
+texts-yes c = sym c.legal_texts.ensures ∙ c.if-not-legal_texts.false
 
-returns : tie.Need-returns
+returns : tie.Need-returns-then-not-legal_texts
 unfolding outcome refusing told counted
-returns c = rw c.refused.ensures (sym (due_broken _ _ _ _ _ c.before.before.before.before.before.requires.0 (texts-no c.before)), refl)
+returns c = rw c.refused.ensures (sym (due_broken _ _ _ _ _ c.requires.0 (texts-no c.before)), refl)
 
-returns-2 : tie.Need-returns-2
+returns-2 : tie.Need-returns-then-out-message
 unfolding outcome refusing told counted
 returns-2 c =
-    rw c.refused2.ensures
-    (sym (due_full _ _ _ _ _ c.before.before.before.before.before.before.requires.0 (texts-yes c.before.before) c.before.if2.true), refl)
+    rw c.refused-then-out-message.ensures
+    (sym (due_full _ _ _ _ _ c.requires.0 (texts-yes c.before.before) c.if-out-message.true), refl)
 
-judge-requires : tie.Need-judge-requires
+judge-requires : tie.Need-judge-judged-requires
 judge-requires c κs =
-    let s = c.before.before.before.before.before in
-    (due_sound _ _ _ _ s.args.out.now s.requires.0, due_whole _ _ _ _ s.args.out.now s.requires.0 (texts-yes c.before) c.if2.false)
+    let s = c in
+    (due_sound _ _ _ _ s.args.out.now s.requires.0, due_whole _ _ _ _ s.args.out.now s.requires.0 (texts-yes c.before) c.if-out-message.false)
 
 settle-requires : tie.Need-settle-requires
 settle-requires c κs =
-    let e = c.before.before.before in
-    let s = e.before.before.before.before.before in
+    let e = c in
+    let s = e in
     let out = s.args.out.now in
     let p = s.requires in
-    let w = due_whole _ _ _ _ out p.0 (texts-yes e.before) e.if2.false in
-    settles _ _ _ _ _ _ (due_sound _ _ _ _ out p.0) p.1 (omega (arith, (whole_parts _ w).nine)) e.if2.false
-    _ (λ b h. sym c.before.before.judge.ensures.1 ∙ h)
+    let w = due_whole _ _ _ _ out p.0 (texts-yes c.before.before.before.before) e.if-out-message.false in
+    settles _ _ _ _ _ _ (due_sound _ _ _ _ out p.0) p.1 (omega (arith, (whole_parts _ w).nine)) e.if-out-message.false
+    _ (λ b h. sym c.judge-judged.ensures.1 ∙ h)
 
-returns-3 : tie.Need-returns-3
+returns-3 : tie.Need-returns
 unfolding outcome
 returns-3 c =
-    let e = c.before.before.before.before.before.before in
-    let s = e.before.before.before.before.before in
-    let x = c.before.before.settle.ensures in
-    let j = c.before.before.before.before.before.judge.ensures in (
-      x.0 ∙ sym (judged_as _ _ _ _ _ _ (due_yes _ _ _ _ s.args.out.now s.requires.0 (texts-yes e.before) e.if2.false)
+    let e = c in
+    let s = e in
+    let x = c.settle.ensures in
+    let j = c.judge-judged.ensures in (
+      x.0 ∙ sym (judged_as _ _ _ _ _ _ (due_yes _ _ _ _ s.args.out.now s.requires.0 (texts-yes c.before.before.before.before.before.before.before) e.if-out-message.false)
           (due_judged _ _ _ _ s.args.out.now s.requires.0 ∙ sym j.0)),
       x.1 ∙ settled_counted _ _ _ _ _ s.args.out.now _ (λ b h. sym j.1 ∙ h) _ (ap (λ (y : Outcome). y.verdict) x.0),
     )

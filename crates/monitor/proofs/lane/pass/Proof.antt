@@ -7,27 +7,27 @@ use Rattle.monitor.proofs.laws.PassedOn.{ahead_size, ahead_fits, passed_on}
 use Rattle.monitor.proofs.lane.pass.Statement.{statement}
 use Rattle.monitor.proofs.lane.pass.Tie as tie
 
-slice-aggregate-to-front : tie.Need-slice-aggregate-to-front
+slice-aggregate-to-front : tie.Need-slice_bounds-to_front-end
 slice-aggregate-to-front c =
-    let a = c.before.before.before.before.before.before.before.args in
-    ahead_size _ _ _ (lane_of a.lane a.out.now) c.before.before.before.before.before.before.before.requires.1 _ (c.before.before.before.look-ahead.ensures c.before.if1.true)
+    let a = c.args in
+    ahead_size _ _ _ (lane_of a.lane a.out.now) c.requires.1 _ (c.look_ahead-first.ensures c.if-first-lt128.true)
 
-to-front-requires : tie.Need-to-front-requires
+to-front-requires : tie.Need-to_front-requires
 to-front-requires c κs =
-    let a = c.before.before.before.before.before.before.before.before.args in
-    ahead_fits _ _ _ (lane_of a.lane a.out.now) c.before.before.before.before.before.before.before.before.requires.1 _ (c.before.before.before.before.look-ahead.ensures c.before.before.if1.true)
+    let a = c.args in
+    ahead_fits _ _ _ (lane_of a.lane a.out.now) c.requires.1 _ (c.look_ahead-first.ensures c.if-first-lt128.true)
 
-returns : tie.Need-returns
+returns : tie.Need-returns-then-first-lt128
 returns c =
-    let a = c.before.before.before.before.before.before.before.before.before.before.before.args in
-    passed_on _ _ _ (lane_of a.lane a.out.now) c.before.before.before.before.before.before.before.before.before.before.before.requires.1 _ (c.before.before.before.before.before.before.before.look-ahead.ensures c.before.before.before.before.before.if1.true) c.before.before.before.before.before.if1.true _ c.before.before.to_front.ensures
+    let a = c.args in
+    passed_on _ _ _ (lane_of a.lane a.out.now) c.requires.1 _ (c.look_ahead-first.ensures c.if-first-lt128.true) c.if-first-lt128.true _ c.to_front.ensures
 
-returns-2 : tie.Need-returns-2
+returns-2 : tie.Need-returns-else-first-lt128
 returns-2 c =
     record {
-      straight = λ h. absurd (omega (arith, h, c.if1.false));
-      owned = λ h. absurd (omega (arith, h, c.if1.false));
-      within = λ h. absurd (omega (arith, h, c.if1.false));
+      straight = λ h. absurd (omega (arith, h, c.if-first-lt128.false));
+      owned = λ h. absurd (omega (arith, h, c.if-first-lt128.false));
+      within = λ h. absurd (omega (arith, h, c.if-first-lt128.false));
       stays = λ h. refl;
     }
 

@@ -6,48 +6,48 @@ use Rattle.monitor.proofs.laws.Led.{cut_length, got_none, got_due, got_used, got
 use Rattle.monitor.proofs.lane.take.Statement.{statement}
 use Rattle.monitor.proofs.lane.take.Tie as tie
 
-returns : tie.Need-returns
+returns : tie.Need-returns-then-n-eq0
 unfolding last_of
 returns c =
-    let s = c.before.before.before.before.before in
+    let s = c in
     let a = s.args in
-    got_none _ _ _ _ a.bytes.now (lane_of a.lane a.out.now) s.requires.0 s.requires.2 _ c.before.first_length.ensures c.if1.true
+    got_none _ _ _ _ a.bytes.now (lane_of a.lane a.out.now) s.requires.0 s.requires.2 _ c.first_length-n.ensures c.if-n-eq0.true
 
-slice-aggregate-heard : tie.Need-slice-aggregate-heard
-slice-aggregate-heard c = cut_length _ _ c.before.before.before.first_length.ensures
+slice-aggregate-heard : tie.Need-slice_bounds-heard-end
+slice-aggregate-heard c = cut_length _ _ c.first_length-n.ensures
 
-heard-requires : tie.Need-heard-requires
+heard-requires : tie.Need-heard-x-requires
 heard-requires c κs =
-    let s = c.before.before.before.before.before.before.before.before in
+    let s = c in
     let a = s.args in (
-      got_due _ _ a.c.now _ a.bytes.now (lane_of a.lane a.out.now) s.requires.0 s.requires.2 _ c.before.before.before.before.first_length.ensures c.before.before.before.if1.false,
+      got_due _ _ a.c.now _ a.bytes.now (lane_of a.lane a.out.now) s.requires.0 s.requires.2 _ c.first_length-n.ensures c.if-n-eq0.false,
       s.requires.1,
     )
 
-add-t27 : tie.Need-overflow-add-t27
+add-t27 : tie.Need-overflow_add-after
 add-t27 c =
-    let s = c.before.before.before.before.before.before.before.before.before.before.before.before.before in
+    let s = c in
     let a = s.args in
-    let h = got_used _ a.s a.c.now a.side a.bytes.now (lane_of a.lane a.out.now) s.requires.0 s.requires.2 _ c.before.before.before.before.before.before.before.before.before.first_length.ensures c.before.before.before.before.before.before.before.before.if1.false _ _ c.before.before.before.before.heard.ensures.0 in
+    let h = got_used _ a.s a.c.now a.side a.bytes.now (lane_of a.lane a.out.now) s.requires.0 s.requires.2 _ c.first_length-n.ensures c.if-n-eq0.false _ _ c.heard-x.ensures.0 in
     omega (arith, h, c.used.ensures)
 
-add-t29 : tie.Need-overflow-add-t29
+add-t29 : tie.Need-overflow_add-after-2
 add-t29 c =
-    let s = c.before.before.before.before.before.before.before.before.before.before.before.before.before.before in
+    let s = c in
     let a = s.args in
-    let h = got_written _ a.s a.c.now a.side a.bytes.now (lane_of a.lane a.out.now) s.requires.0 s.requires.2 _ c.before.before.before.before.before.before.before.before.before.before.first_length.ensures c.before.before.before.before.before.before.before.before.before.if1.false _ _ c.before.before.before.before.before.heard.ensures.0 in
+    let h = got_written _ a.s a.c.now a.side a.bytes.now (lane_of a.lane a.out.now) s.requires.0 s.requires.2 _ c.first_length-n.ensures c.if-n-eq0.false _ _ c.heard-x.ensures.0 in
     omega (arith, h, c.written.ensures)
 
-returns-2 : tie.Need-returns-2
+returns-2 : tie.Need-returns
 unfolding last_of
 returns-2 c =
-    let s = c.before.before.before.before.before.before.before.before.before.before.before.before.before.before in
+    let s = c in
     let a = s.args in
     let l = lane_of a.lane a.out.now in
-    let n = c.before.before.before.before.before.before.before.before.before.before.first_length.ensures in
-    let some = c.before.before.before.before.before.before.before.before.before.if1.false in
-    let x = c.before.before.before.before.before.heard.ensures in
-    got_one _ _ _ _ a.bytes.now l s.requires.0 s.requires.2 _ n some _ _ x.0 _ _ c.before.used.ensures c.written.ensures _ x.1
+    let n = c.first_length-n.ensures in
+    let some = c.if-n-eq0.false in
+    let x = c.heard-x.ensures in
+    got_one _ _ _ _ a.bytes.now l s.requires.0 s.requires.2 _ n some _ _ x.0 _ _ c.used.ensures c.written.ensures _ x.1
 
 pub take_spec : {M : Type 1} → statement M
 take_spec =

@@ -21,7 +21,7 @@ use Rattle.monitor.proofs.laws.Carried.{value_legal}
 use Rattle.monitor.proofs.straight.carry.Statement.{statement}
 use Rattle.monitor.proofs.straight.carry.Tie as tie
 
-abbrev invariant-loop : tie.invariant-loop
+abbrev invariant-loop : tie.invariant-loop-f
 invariant-loop t at count message numbers texts₀ f₀ texts f =
     (f ≤ count) × Facing t message at count × (numbers ≡ 9 + count_of message)
     × (true ≡ all f (λ f. kind_is t message (at + f) f))
@@ -30,94 +30,88 @@ invariant-loop t at count message numbers texts₀ f₀ texts f =
     × (texts ≡ text_bytes (upto f (value_at message)))
     × (texts ≤ 64 * f)
 
-abbrev decreases-loop : tie.decreases-loop
+abbrev decreases-loop : tie.decreases-loop-f
 decreases-loop t at count message numbers texts₀ f₀ texts f = count - f
 
-loop-holds : tie.Need-loop-init invariant-loop decreases-loop
+loop-holds : tie.Need-loop-f-init invariant-loop decreases-loop
 unfolding all upto text_bytes
-loop-holds c = (search rules, c.before.requires, ap (λ n. 9 + n) c.before.requires.counted, refl, λ j l. absurd (not-suc-le-zero l), refl, refl, search rules)
+loop-holds c = (search rules, c.requires, ap (λ n. 9 + n) c.requires.counted, refl, λ j l. absurd (not-suc-le-zero l), refl, refl, search rules)
 
-returns : tie.Need-returns invariant-loop decreases-loop
+returns : tie.Need-returns-then-wide-t invariant-loop decreases-loop
 returns c l = absurd (omega arith)
 
-returns-2 : tie.Need-returns-2 invariant-loop decreases-loop
+returns-2 : tie.Need-returns-then-number-t invariant-loop decreases-loop
 returns-2 c l = absurd (omega arith)
 
-returns-3 : tie.Need-returns-3 invariant-loop decreases-loop
+returns-3 : tie.Need-returns-then-t-k invariant-loop decreases-loop
 returns-3 c l = absurd (omega arith)
 
 -- what was read in this turn is field f, which is held
-abbrev start : tie.Else3 invariant-loop decreases-loop → tie.Start invariant-loop decreases-loop
-start c = c.before.before.before.before.before.before.before.before.before.before.before.before
+number_is : (c : tie.Else-t-k invariant-loop decreases-loop) → c.number-number.result ≡ (value_at c.args.message.now c.loop-f.f).number
+number_is c = c.number-number.ensures ∙ ap (λ n. number_at c.args.message.now (n + 4 * c.loop-f.f)) c.loop-f.invariant.2
 
-abbrev here : tie.Else3 invariant-loop decreases-loop → tie.At-loop invariant-loop decreases-loop
-here c = c.before.before.before.before.before.before.before.before.before.before
+kind_same : (c : tie.Else-t-k invariant-loop decreases-loop) → (value_at c.args.message.now c.loop-f.f).kind ≡ kind_at c.args.t.now (c.args.at + c.loop-f.f)
+kind_same c = sym c.wide.ensures ∙ c.if-wide-t.false
 
-number_is : (c : tie.Else3 invariant-loop decreases-loop) → c.before.before.before.before.number.result ≡ (value_at (start c).args.message.now (here c).loop.f).number
-number_is c = c.before.before.before.before.number.ensures ∙ ap (λ n. number_at (start c).args.message.now (n + 4 * (here c).loop.f)) (here c).loop.invariant.2
-
-kind_same : (c : tie.Else3 invariant-loop decreases-loop) → (value_at (start c).args.message.now (here c).loop.f).kind ≡ kind_at (start c).args.t.now ((start c).args.at + (here c).loop.f)
-kind_same c = sym c.before.before.before.before.before.before.before.wide.ensures ∙ c.before.before.before.before.before.if1.false
-
-held : (c : tie.Else3 invariant-loop decreases-loop) → legal_value (value_at (start c).args.message.now (here c).loop.f) ≡ true
+held : (c : tie.Else-t-k invariant-loop decreases-loop) → legal_value (value_at c.args.message.now c.loop-f.f) ≡ true
 held c =
-    value_legal (start c).args.t.now (start c).args.message.now ((start c).args.at + (here c).loop.f) (here c).loop.f _ (number_is c)
-    ((here c).loop.invariant.1.legal (here c).loop.f (omega arith)) (kind_same c) c.before.before.if2.false c.if3.false
+    value_legal c.args.t.now c.args.message.now (c.args.at + c.loop-f.f) c.loop-f.f _ (number_is c)
+    (c.loop-f.invariant.1.legal c.loop-f.f (omega arith)) (kind_same c) c.if-number-t.false c.if-t-k.false
 
-within : (c : tie.Else3 invariant-loop decreases-loop) → inside (start c).args.t.now (start c).args.message.now ((start c).args.at + (here c).loop.f) (here c).loop.f ≡ true
+within : (c : tie.Else-t-k invariant-loop decreases-loop) → inside c.args.t.now c.args.message.now (c.args.at + c.loop-f.f) c.loop-f.f ≡ true
 within c =
-    not-false _ (within_range (start c).args.t.now (start c).args.message.now ((start c).args.at + (here c).loop.f) (here c).loop.f _ (number_is c) c.before.before.if2.false c.if3.false)
+    not-false _ (within_range c.args.t.now c.args.message.now (c.args.at + c.loop-f.f) c.loop-f.f _ (number_is c) c.if-number-t.false c.if-t-k.false)
 
 -- the number of a text is its length above the origin
-length-of : (c : tie.Then4 invariant-loop decreases-loop)
-    → (2147483648 ≤ c.before.before.before.before.before.number.result) × (c.before.before.before.before.before.number.result ≤ 2147483648 + 64)
+length-of : (c : tie.Then-kind-eq1 invariant-loop decreases-loop)
+    → (2147483648 ≤ c.number-number.result) × (c.number-number.result ≤ 2147483648 + 64)
 unfolding legal_value
 length-of c =
-    let l = text_within _ _ c.if4.true (held c.before) in
+    let l = text_within _ _ c.if-kind-eq1.true (held c.before) in
     let e = number_is c.before in
     (omega (arith, l.0, e), omega (arith, l.1, e))
 
-sub-texts : tie.Need-overflow-sub-texts invariant-loop decreases-loop
+sub-texts : tie.Need-overflow_sub-texts invariant-loop decreases-loop
 sub-texts c = (length-of c).0
 
-cast-texts : tie.Need-overflow-cast-texts invariant-loop decreases-loop
+cast-texts : tie.Need-overflow_cast-texts invariant-loop decreases-loop
 cast-texts c = record { fits = omega (arith, length-of c) }
 
-add-texts : tie.Need-overflow-add-texts invariant-loop decreases-loop
-add-texts c = record { fits = omega (arith, length-of c, c.before.before.before.before.before.before.before.before.before.before.before.loop.invariant.1.few) }
+add-texts : tie.Need-overflow_add-texts invariant-loop decreases-loop
+add-texts c = record { fits = omega (arith, length-of c, c.loop-f.invariant.1.few) }
 
-loop-again : tie.Need-loop-preserved invariant-loop decreases-loop
+loop-again : tie.Need-loop-f-preserved-then-kind-eq1 invariant-loop decreases-loop
 loop-again c =
-    let h = c.before.before.before.before.before.before.before.before.before.before.before.loop in
-    let m = c.before.before.before.before.before.before.before.before.before.before.before.before.before.args.message.now in (
+    let h = c.loop-f in
+    let m = c.args.message.now in (
       search rules,
       h.invariant.1,
       h.invariant.2,
       all_yes _ h.f h.invariant.3 (kind_yes _ _ _ _ (kind_same c.before)),
       below_more _ _ h.invariant.4 (within c.before),
       all_yes (λ k. legal_value (value_at m k)) h.f h.invariant.5 (held c.before),
-      texts_text h.f h.texts (value_at m) h.invariant.6 _ c.if4.true (number_is c.before),
+      texts_text h.f h.texts (value_at m) h.invariant.6 _ c.if-kind-eq1.true (number_is c.before),
       omega (arith, length-of c, h.invariant.7),
     )
 
-loop-again-2 : tie.Need-loop-preserved-2 invariant-loop decreases-loop
+loop-again-2 : tie.Need-loop-f-preserved invariant-loop decreases-loop
 loop-again-2 c =
-    let h = c.before.before.before.before.before.before.before.before.before.before.before.loop in
-    let m = c.before.before.before.before.before.before.before.before.before.before.before.before.before.args.message.now in (
+    let h = c.loop-f in
+    let m = c.args.message.now in (
       search rules,
       h.invariant.1,
       h.invariant.2,
       all_yes _ h.f h.invariant.3 (kind_yes _ _ _ _ (kind_same c.before)),
       below_more _ _ h.invariant.4 (within c.before),
       all_yes (λ k. legal_value (value_at m k)) h.f h.invariant.5 (held c.before),
-      texts_other h.f h.texts (value_at m) h.invariant.6 c.if4.false,
+      texts_other h.f h.texts (value_at m) h.invariant.6 c.if-kind-eq1.false,
       omega (arith, h.invariant.7),
     )
 
-returns-4 : tie.Need-returns-4 invariant-loop decreases-loop
+returns-4 : tie.Need-returns invariant-loop decreases-loop
 returns-4 c e =
-    let h = c.before.loop in
-    let m = c.before.before.before.args.message.now in
+    let h = c.loop-f in
+    let m = c.args.message.now in
     let x = h.invariant.1 in
     let all_there : 9 + 5 * count_of m ≤ length m = omega (arith, x.counted, x.arrays) in
     record {

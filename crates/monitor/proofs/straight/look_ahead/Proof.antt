@@ -9,42 +9,36 @@ use Rattle.monitor.proofs.laws.Carried.{straight}
 use Rattle.monitor.proofs.straight.look_ahead.Statement.{statement}
 use Rattle.monitor.proofs.straight.look_ahead.Tie as tie
 
--- where a branch was looked for
-abbrev start : tie.After-find → tie.Start
-start c = c.before.before.before.before
-
 -- nowhere is no branch
 not_there : (r : Ahead) → r ≡ record { branch = 128; length = 0 } → r.branch < 128 → ⊥
 not_there r e l = omega (arith, ap (λ (r : Ahead). r.branch) e)
 
-returns : tie.Need-returns
+returns : tie.Need-returns-then-bytes-lt9
 returns c l = absurd (not_there _ c.nowhere.ensures l)
 
-cast-n : tie.Need-overflow-cast-n
-cast-n c = record { fits = omega (arith, (sound_facts _ c.before.before.before.requires).room) }
+cast-n : tie.Need-overflow_cast-n
+cast-n c = record { fits = omega (arith, (sound_facts _ c.requires).room) }
 
-find-requires : tie.Need-find-requires
-find-requires c κs = (sound_facts _ c.before.before.before.requires).room
+find-requires : tie.Need-find-b-requires
+find-requires c κs = (sound_facts _ c.requires).room
 
-returns-2 : tie.Need-returns-2
-returns-2 c l = absurd (not_there _ c.nowhere2.ensures l)
+returns-2 : tie.Need-returns-then-n-b
+returns-2 c l = absurd (not_there _ c.nowhere-then-n-b.ensures l)
 
-held-requires : tie.Need-held-requires
-held-requires c κs = ((start c.before).requires, c.if2.false, c.before.before.before.if1.false)
+held-requires : tie.Need-held-length-requires
+held-requires c κs = (c.requires, c.if-n-b.false, c.if-bytes-lt9.false)
 
-returns-3 : tie.Need-returns-3
-returns-3 c l = absurd (not_there _ c.nowhere3.ensures l)
+returns-3 : tie.Need-returns-then-length-eq0
+returns-3 c l = absurd (not_there _ c.nowhere-then-length-eq0.ensures l)
 
-returns-4 : tie.Need-returns-4
-returns-4 c l = absurd (not_there _ c.nowhere4.ensures l)
+returns-4 : tie.Need-returns-then-room-length
+returns-4 c l = absurd (not_there _ c.nowhere-then-room-length.ensures l)
 
-returns-5 : tie.Need-returns-5
+returns-5 : tie.Need-returns
 returns-5 c l =
-    let e = c.before.before.before in
-    let f = e.before in
-    let a = (start f).args in
-    straight a.t.now (start f).requires a.bytes.now f.before.before.if1.false a.position f.find.result f.find.ensures e.if2.false
-    _ (c.before.before.held.ensures c.before.if3.false) a.room c.if4.false
+    let a = c.args in
+    straight a.t.now c.requires a.bytes.now c.if-bytes-lt9.false a.position c.find-b.result c.find-b.ensures c.if-n-b.false
+    _ (c.held-length.ensures c.if-length-eq0.false) a.room c.if-room-length.false
 
 pub look_ahead_spec : {M : Type 1} → statement M
 look_ahead_spec =

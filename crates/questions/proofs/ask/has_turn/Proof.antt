@@ -23,11 +23,11 @@ host zero = refl
 host (suc zero) = refl
 host (suc (suc n)) = lt-ltb 1 (suc (suc n)) (omega arith)
 
-returns : tie.Need-returns
-returns c = rw c.enum_told.given.1 (device c.before.before.args.sort)
+returns : tie.Need-returns-in-Device
+returns c = rw c.in-Device.is (device c.args.sort)
 
-returns-2 : tie.Need-returns-2
-returns-2 c = rw c.enum-told2.given.1 (host c.before.before.args.sort)
+returns-2 : tie.Need-returns-in-Host
+returns-2 c = rw c.in-Host.is (host c.args.sort)
 
 pub has_turn_spec : {M : Type 1} → statement M
 has_turn_spec = tie.close (tie.spec (λ c. search rules) (λ c. search rules) returns returns-2)

@@ -4,17 +4,17 @@ use Rattle.conversation.specs.Step.{is_running}
 use Rattle.questions.proofs.ask.is_running.Statement.{statement}
 use Rattle.questions.proofs.ask.is_running.Tie as tie
 
-returns : tie.Need-returns
+returns : tie.Need-returns-in-Running
 unfolding is_running
-returns c = rw c.enum_told.given.1
+returns c = rw c.in-Running.is
 
-returns-2 : tie.Need-returns-2
+returns-2 : tie.Need-returns-in-DeviceBlamed
 unfolding is_running
-returns-2 c = rw c.enum-told2.given.1
+returns-2 c = rw c.in-DeviceBlamed.is
 
-returns-3 : tie.Need-returns-3
+returns-3 : tie.Need-returns-in-HostBlamed
 unfolding is_running
-returns-3 c = rw c.enum-told3.given.1
+returns-3 c = rw c.in-HostBlamed.is
 
 pub is_running_spec : {M : Type 1} → statement M
 is_running_spec =

@@ -7,25 +7,25 @@ use Rattle.conversation.proofs.laws.Step.{Entered, entered, not_entered, at_end,
 use Rattle.questions.proofs.ask.of_state.Statement.{statement}
 use Rattle.questions.proofs.ask.of_state.Tie as tie
 
-returns : tie.Need-returns
-returns c = sym (not_entered _ _ _ _ c.before.of-batch.ensures c.if1.true)
+returns : tie.Need-returns-then-q-ne0
+returns c = sym (not_entered _ _ _ _ c.of_batch-q.ensures c.if-q-ne0.true)
 
 -- 9, on the counts, too, and 10 got a yes
-yes : (c : tie.Else1) → let a = c.before.before.args in Entered a.t.now a.s a.c.now
-yes c = entered _ _ _ (sym c.before.of-batch.ensures ∙ c.if1.false)
+yes : (c : tie.Else-q-ne0) → let a = c.args in Entered a.t.now a.s a.c.now
+yes c = entered _ _ _ (sym c.of_batch-q.ensures ∙ c.if-q-ne0.false)
 
-element-copy-out-if2 : tie.Need-element-copy-out-if2
-element-copy-out-if2 c = let y = yes c in omega (arith, y.below, (sound_facts _ y.sound).few)
+element-copy-out-if2 : tie.Need-bounds-t-position
+element-copy-out-if2 c = let y = yes c.before in omega (arith, y.below, (sound_facts _ y.sound).few)
 
-returns-2 : tie.Need-returns-2
+returns-2 : tie.Need-returns-then-t-position-eq0
 returns-2 c =
-    let y = yes c.before.before in
-    sym (nine_passed _ y.counts ∙ at_end _ _ y.sound y.below y.running c.if2.true)
+    let y = yes c.before.before.before in
+    sym (nine_passed _ y.counts ∙ at_end _ _ y.sound y.below y.running c.if-t-position-eq0.true)
 
-returns-3 : tie.Need-returns-3
+returns-3 : tie.Need-returns
 returns-3 c =
-    let y = yes c.before.before in
-    sym (nine_passed _ y.counts ∙ at_choice _ _ y.sound y.below y.running c.if2.false)
+    let y = yes c.before.before.before in
+    sym (nine_passed _ y.counts ∙ at_choice _ _ y.sound y.below y.running c.if-t-position-eq0.false)
 
 pub of_state_spec : {M : Type 1} → statement M
 of_state_spec =

@@ -1,6 +1,5 @@
 -- `questions::counts::all_added` meets its contract. Assumes nothing.
 use mathlib.Core.Path.{◌≡◌, refl, sym}
-use mathlib.Core.Logic.{⊎_elim}
 use mathlib.Core.Bool.{true}
 use Prim.Native.Nat.{◌-◌, ◌≤◌}
 use native.Mathlib.Omega.{arith}
@@ -12,43 +11,47 @@ use Rattle.table.proofs.laws.View.{sound_facts}
 use Rattle.conversation.specs.inner.Keeping.{sums_to}
 use Rattle.questions.proofs.laws.SumsTo.{sums_end, sums_over, sums_other, sums_right}
 use Rattle.questions.proofs.counts.all_added.Statement.{statement}
+use Rattle.questions.proofs.counts.all_added.Lts.{then-t-i-ne0+else-n-gt-MOST+else-sums-i, else-t-i-ne0}
 use Rattle.questions.proofs.counts.all_added.Tie as tie
 
-abbrev invariant-loop : tie.invariant-loop
+abbrev invariant-loop : tie.invariant-loop-i
 invariant-loop t c sums m i₀ i = (i ≤ m) × (m ≡ states_of t) × (m ≤ 32) × (true ≡ all i (sums_to t c sums))
 
-abbrev decreases-loop : tie.decreases-loop
+abbrev decreases-loop : tie.decreases-loop-i
 decreases-loop t c sums m i₀ i = m - i
 
-cast-m : tie.Need-overflow-cast-m invariant-loop decreases-loop
+cast-m : tie.Need-overflow_cast-m invariant-loop decreases-loop
 cast-m c = omega (arith, (sound_facts _ c.before.requires).few)
 
-loop-holds : tie.Need-loop-init invariant-loop decreases-loop
+loop-holds : tie.Need-loop-i-init invariant-loop decreases-loop
 unfolding all
 loop-holds c = (search rules, refl, (sound_facts _ c.before.requires).few, refl)
 
-returns : tie.Need-returns invariant-loop decreases-loop
+returns : tie.Need-returns-then-n-gt-MOST invariant-loop decreases-loop
 returns c =
-    sym (all_no _ _ c.before.before.before.before.before.loop.i (omega arith)
-    (sums_over _ _ _ _ c.before.before.if1.true c.if2.true))
+    sym (all_no _ _ c.before.before.before.before.before.loop-i.i (omega arith)
+    (sums_over _ _ _ _ c.before.before.if-t-i-ne0.true c.if-n-gt-MOST.true))
 
-returns-2 : tie.Need-returns-2 invariant-loop decreases-loop
+returns-2 : tie.Need-returns-then-sums-i invariant-loop decreases-loop
 returns-2 c =
-    sym (all_no _ _ c.before.before.before.before.before.before.before.loop.i (omega arith)
-    (sums_other _ _ _ _ c.before.before.before.before.if1.true c.if3.true))
+    sym (all_no _ _ c.before.before.before.before.before.before.before.loop-i.i (omega arith)
+    (sums_other _ _ _ _ c.before.before.before.before.if-t-i-ne0.true c.if-sums-i.true))
 
-loop-again : tie.Need-loop-preserved invariant-loop decreases-loop
+loop-again : tie.Need-loop-i-preserved invariant-loop decreases-loop
 loop-again c =
-    let i = c.before.before.before.loop.invariant in (
+    let i = c.before.before.before.loop-i.invariant in (
       search rules,
       i.1,
       i.2,
-      all_yes _ c.before.before.before.loop.i i.3
-          (⊎_elim (λ h. sums_right _ _ _ _ h.0.taken h.2.left h.4.left) (λ h. sums_end _ _ _ _ h.left) c.if1.branch),
+      all_yes _ c.loop-i.i i.3
+          (elim c.if-t-i-ne0.branch [
+            | then-t-i-ne0+else-n-gt-MOST+else-sums-i w ↦ sums_right _ _ _ _ w.if-t-i-ne0.true w.if-n-gt-MOST.false w.if-sums-i.false
+            | else-t-i-ne0 w ↦ sums_end _ _ _ _ w.if-t-i-ne0.false
+          ]),
     )
 
-returns-3 : tie.Need-returns-3 invariant-loop decreases-loop
-returns-3 c = all_end _ c.before.loop.i _ c.before.loop.invariant.3 (omega arith)
+returns-3 : tie.Need-returns invariant-loop decreases-loop
+returns-3 c = all_end _ c.before.loop-i.i _ c.before.loop-i.invariant.3 (omega arith)
 
 pub all_added_spec : {M : Type 1} → statement M
 all_added_spec =

@@ -7,11 +7,11 @@ use Rattle.conversation.specs.Counts.{legal_setting}
 use Rattle.questions.proofs.counts.setting_legal.Statement.{statement}
 use Rattle.questions.proofs.counts.setting_legal.Tie as tie
 
-returns : tie.Need-returns
+returns : tie.Need-returns-then-z-eq0
 unfolding legal_setting
 returns c = sym (left_fails _ (lt-leb 1 c.before.args.z (omega arith)))
 
-returns-2 : tie.Need-returns-2
+returns-2 : tie.Need-returns
 unfolding legal_setting
 returns-2 c = sym (left_passes _ (le-leb 1 c.before.args.z (omega arith)))
 

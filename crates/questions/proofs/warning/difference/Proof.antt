@@ -4,11 +4,11 @@ use Rattle.conversation.specs.Warning.{difference}
 use Rattle.questions.proofs.warning.difference.Statement.{statement}
 use Rattle.questions.proofs.warning.difference.Tie as tie
 
-returns : tie.Need-returns
+returns : tie.Need-returns-then-a-b
 unfolding difference
 returns c = search rules
 
-returns-2 : tie.Need-returns-2
+returns-2 : tie.Need-returns
 unfolding difference
 returns-2 c = search rules
 

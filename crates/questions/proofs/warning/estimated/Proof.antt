@@ -9,16 +9,16 @@ use Rattle.conversation.proofs.laws.Warning.{estimate_some}
 use Rattle.questions.proofs.warning.estimated.Statement.{statement}
 use Rattle.questions.proofs.warning.estimated.Tie as tie
 
-returns : tie.Need-returns
+returns : tie.Need-returns-then-n-eq0
 unfolding estimate estimate_of
-returns c = ap (λ n. estimate n c.before.args.k) (sym c.if1.true)
+returns c = ap (λ n. estimate n c.before.args.k) (sym c.if-n-eq0.true)
 
-cast-t9 : tie.Need-overflow-cast-t9
+cast-t9 : tie.Need-overflow_cast-result
 cast-t9 c = omega (arith, div-le_self (2 * (1000 * c.before.args.k) + c.before.args.n) (2 * c.before.args.n))
 
-returns-2 : tie.Need-returns-2
+returns-2 : tie.Need-returns
 unfolding rounded estimate_of
-returns-2 c = sym (estimate_some _ _ c.if1.false)
+returns-2 c = sym (estimate_some _ _ c.if-n-eq0.false)
 
 pub estimated_spec : {M : Type 1} → statement M
 estimated_spec =

@@ -4,7 +4,6 @@ use mathlib.Core.Bool.{true}
 use Prim.Native.Nat.{◌≤◌}
 use native.Mathlib.Omega.{arith}
 use borrow.Author.Rules.{rules}
-use borrow.Author.Tests.{not-true, not-false}
 use Rattle.table.specs.View.{states_of, branches_of, sound_of, sound_at}
 use Rattle.table.proofs.laws.Lists.{left_fails, right_fails}
 use Rattle.table.proofs.laws.View.{sound_facts}
@@ -15,113 +14,113 @@ use Rattle.conversation.proofs.laws.Warning.{Known, known, warning_9, warning_18
 use Rattle.questions.proofs.warning.of_branch.Statement.{statement}
 use Rattle.questions.proofs.warning.of_branch.Tie as tie
 
-returns : tie.Need-returns
+returns : tie.Need-returns-then-not-sound_at
 unfolding notice_of
 returns c =
-    let a = c.before.before.before.args in
-    sym (warning_9 a.t.now a.s a.c.now a.branch (left_fails _ (sym c.before.sound_at.ensures ∙ not-true _ c.if1.true)))
+    let a = c.args in
+    sym (warning_9 a.t.now a.s a.c.now a.branch (left_fails _ (sym c.sound_at.ensures ∙ c.if-not-sound_at.true)))
 
 sound-requires : tie.Need-sound-requires
 sound-requires c κs =
-    (sound_parts _ _ (sym c.before.sound_at.ensures ∙ not-false _ c.if1.false)).0
+    (sound_parts _ _ (sym c.sound_at.ensures ∙ c.if-not-sound_at.false)).0
 
-returns-2 : tie.Need-returns-2
+returns-2 : tie.Need-returns-then-not-sound
 unfolding notice_of
 returns-2 c =
-    let a = c.before.before.before.before.before.args in
-    sym (warning_9 a.t.now a.s a.c.now a.branch (right_fails (sound_at a.t.now a.s.position) (sym c.before.sound.ensures ∙ not-true _ c.if2.true)))
+    let a = c.args in
+    sym (warning_9 a.t.now a.s a.c.now a.branch (right_fails (sound_at a.t.now a.s.position) (sym c.sound.ensures ∙ c.if-not-sound.true)))
 
 -- 9 got a yes
-sound-9 : (c : tie.Else2)
-    → (sound_at c.before.before.before.before.before.args.t.now c.before.before.before.before.before.args.s.position ≡ true)
-    × (counts_sound c.before.before.before.before.before.args.t.now c.before.before.before.before.before.args.c.now ≡ true)
+sound-9 : (c : tie.Else-not-sound)
+    → (sound_at c.args.t.now c.args.s.position ≡ true)
+    × (counts_sound c.args.t.now c.args.c.now ≡ true)
 sound-9 c = (
-  sym c.before.before.before.sound_at.ensures ∙ not-false _ c.before.before.if1.false,
-  sym c.before.sound.ensures ∙ not-false _ c.if2.false,
+  sym c.sound_at.ensures ∙ c.if-not-sound_at.false,
+  sym c.sound.ensures ∙ c.if-not-sound.false,
 )
 
-table_sound : (c : tie.Else2) → sound_of c.before.before.before.before.before.args.t.now ≡ true
+table_sound : (c : tie.Else-not-sound) → sound_of c.args.t.now ≡ true
 table_sound c = (sound_parts _ _ (sound-9 c).0).0
 
-returns-3 : tie.Need-returns-3
+returns-3 : tie.Need-returns-then-t-branch
 unfolding notice_of
 returns-3 c =
-    let d = c.before.before in
-    let a = d.before.before.before.before.before.args in
-    sym (warning_18 a.t.now a.s a.c.now a.branch (sound-9 d).0 (sound-9 d).1 c.if3.true)
+    let d = c in
+    let a = d.args in
+    sym (warning_18 a.t.now a.s a.c.now a.branch (sound-9 c.before.before.before).0 (sound-9 c.before.before.before).1 c.if-t-branch.true)
 
-room : (c : tie.Else3) → branches_of c.before.before.before.before.before.before.before.args.t.now ≤ 128
-room c = (sound_facts _ (table_sound c.before.before)).room
+room : (c : tie.Else-t-branch) → branches_of c.args.t.now ≤ 128
+room c = (sound_facts _ (table_sound c.before.before.before)).room
 
-few : (c : tie.Else3) → states_of c.before.before.before.before.before.before.before.args.t.now ≤ 32
-few c = (sound_facts _ (table_sound c.before.before)).few
+few : (c : tie.Else-t-branch) → states_of c.args.t.now ≤ 32
+few c = (sound_facts _ (table_sound c.before.before.before)).few
 
-known_at : (c : tie.Else3)
-    → Known c.before.before.before.before.before.before.before.args.t.now c.before.before.before.before.before.before.before.args.c.now
-    c.before.before.before.before.before.before.before.args.branch
-known_at c = known _ _ _ (table_sound c.before.before) (sound-9 c.before.before).1 c.if3.false
+known_at : (c : tie.Else-t-branch)
+    → Known c.args.t.now c.args.c.now
+    c.args.branch
+known_at c = known _ _ _ (table_sound c.before.before.before) (sound-9 c.before.before.before).1 c.if-t-branch.false
 
-element-copy-out-i : tie.Need-element-copy-out-i
+element-copy-out-i : tie.Need-bounds-t-b
 element-copy-out-i c = omega (arith, room c)
 
-cast-i : tie.Need-overflow-cast-i
+cast-i : tie.Need-overflow_cast-i
 cast-i c = let k = known_at c.before in omega (arith, k.owner, few c.before)
 
-add-n : tie.Need-overflow-add-n
+add-n : tie.Need-overflow_add-n
 add-n c = let k = known_at c.before in omega (arith, k.owner, few c.before)
 
-mul-n : tie.Need-overflow-mul-n
+mul-n : tie.Need-offset_bounds-c-i
 mul-n c = let k = known_at c.before in omega (arith, k.owner, few c.before)
 
-element-copy-out-n : tie.Need-element-copy-out-n
-element-copy-out-n c = let k = known_at c.before in omega (arith, k.owner, few c.before)
+element-copy-out-n : tie.Need-bounds-c-i
+element-copy-out-n c = let k = known_at c.before.before in omega (arith, k.owner, few c.before.before)
 
-cast-n : tie.Need-overflow-cast-n
-cast-n c = let k = known_at c.before.before in omega (arith, k.few.selected)
+cast-n : tie.Need-overflow_cast-n
+cast-n c = let k = known_at c.before.before.before in omega (arith, k.few.selected)
 
-element-copy-out-k : tie.Need-element-copy-out-k
-element-copy-out-k c = omega (arith, room c.before.before)
+element-copy-out-k : tie.Need-bounds-c-b
+element-copy-out-k c = omega (arith, room c.before.before.before)
 
-cast-k : tie.Need-overflow-cast-k
-cast-k c = let k = known_at c.before.before.before in omega (arith, k.few.taken, k.few.selected)
+cast-k : tie.Need-overflow_cast-k
+cast-k c = let k = known_at c.before.before.before.before in omega (arith, k.few.taken, k.few.selected)
 
-cast-is-far : tie.Need-overflow-cast-is-far
-cast-is-far c = let k = known_at c.before.before.before.before in omega (arith, k.setting)
+cast-is-far : tie.Need-overflow_cast-c
+cast-is-far c = let k = known_at c.before.before.before.before.before in omega (arith, k.setting)
 
-element-copy-out-is-far-2 : tie.Need-element-copy-out-is-far-2
-element-copy-out-is-far-2 c = omega (arith, room c.before.before.before.before)
+element-copy-out-is-far-2 : tie.Need-bounds-t-b-2
+element-copy-out-is-far-2 c = omega (arith, room c.before.before.before.before.before)
 
-cast-is-far-2 : tie.Need-overflow-cast-is-far-2
-cast-is-far-2 c = let k = known_at c.before.before.before.before.before in omega (arith, k.share)
+cast-is-far-2 : tie.Need-overflow_cast-t
+cast-is-far-2 c = let k = known_at c.before.before.before.before.before.before in omega (arith, k.share)
 
-is-far-requires : tie.Need-is-far-requires
+is-far-requires : tie.Need-is_far-far-requires
 is-far-requires c κs =
-    let k = known_at c.before.before.before.before.before in
+    let k = known_at c.before.before.before.before.before.before in
     (k.setting, k.share, k.few.selected, k.few.taken)
 
-add-sender : tie.Need-overflow-add-sender
-add-sender c = let d = c.before.before.before.before.before.before in omega (arith, (known_at d).owner, few d)
+add-sender : tie.Need-overflow_add-i-2
+add-sender c = let d = c in omega (arith, (known_at c.before.before.before.before.before.before.before).owner, few c.before.before.before.before.before.before.before)
 
-mul-sender : tie.Need-overflow-mul-sender
-mul-sender c = let d = c.before.before.before.before.before.before in omega (arith, (known_at d).owner, few d)
+mul-sender : tie.Need-offset_bounds-t-i
+mul-sender c = let d = c in omega (arith, (known_at c.before.before.before.before.before.before.before).owner, few c.before.before.before.before.before.before.before)
 
-element-copy-out-sender : tie.Need-element-copy-out-sender
-element-copy-out-sender c = let d = c.before.before.before.before.before.before in omega (arith, (known_at d).owner, few d)
+element-copy-out-sender : tie.Need-bounds-t-i
+element-copy-out-sender c = let d = c in omega (arith, (known_at c.before.before.before.before.before.before.before).owner, few c.before.before.before.before.before.before.before)
 
 sender-requires : tie.Need-sender-requires
-sender-requires c κs = (known_at c.before.before.before.before.before.before.before).choice
+sender-requires c κs = (known_at c.before.before.before.before.before.before.before.before).choice
 
 estimated-requires : tie.Need-estimated-requires
-estimated-requires c κs = let k = known_at c.before.before.before.before.before.before.before.before in (k.few.selected, k.few.taken)
+estimated-requires c κs = let k = known_at c.before.before.before.before.before.before.before.before.before in (k.few.selected, k.few.taken)
 
-returns-4 : tie.Need-returns-4
+returns-4 : tie.Need-returns
 unfolding notice_of
 returns-4 c =
-    let d = c.before.before.before.before.before.before.before.before.before in
-    let a = d.before.before.before.before.before.before.before.args in
-    let e = sound-9 d.before.before in
-    warning_tells a.t.now a.s a.c.now a.branch e.0 e.1 d.if3.false _ _ _
-    c.before.before.before.is-far.ensures c.before.sender.ensures c.estimated.ensures
+    let d = c in
+    let a = d.args in
+    let e = sound-9 c.before.before.before.before.before.before.before.before.before.before.before.before.before in
+    warning_tells a.t.now a.s a.c.now a.branch e.0 e.1 d.if-t-branch.false _ _ _
+    c.is_far-far.ensures c.sender.ensures c.estimated.ensures
 
 pub of_branch_spec : {M : Type 1} → statement M
 of_branch_spec =

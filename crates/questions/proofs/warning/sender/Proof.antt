@@ -6,12 +6,12 @@ use Rattle.conversation.proofs.laws.Step.{host_speaks}
 use Rattle.questions.proofs.warning.sender.Statement.{statement}
 use Rattle.questions.proofs.warning.sender.Tie as tie
 
-returns : tie.Need-returns
+returns : tie.Need-returns-then-sort-eq1
 unfolding speaker sort_of
-returns c = rw c.if1.true
+returns c = rw c.if-sort-eq1.true
 
-returns-2 : tie.Need-returns-2
-returns-2 c = sym (host_speaks _ c.before.requires c.if1.false)
+returns-2 : tie.Need-returns
+returns-2 c = sym (host_speaks _ c.before.requires c.if-sort-eq1.false)
 
 pub sender_spec : {M : Type 1} → statement M
 sender_spec = tie.close (tie.spec returns returns-2)
