@@ -8,8 +8,7 @@ use Rattle.conversation.specs.Step.{of_state}
 use Rattle.conversation.specs.Due.{turn_answer}
 use Rattle.conversation.specs.Counts.{counts_sound}
 use Rattle.conversation.proofs.laws.Step.{opened, nine_yes}
-use Rattle.conversation.proofs.laws.Due.{device_awaited, host_awaited}
-use Rattle.questions.proofs.laws.CountedTurn.{turn_refused, turn_passed}
+use Rattle.questions.proofs.laws.CountedTurn.{turn_refused, device_turn, host_turn}
 use Rattle.questions.proofs.whose_turn.Statement.{statement}
 use Rattle.questions.proofs.whose_turn.Tie as tie
 
@@ -25,14 +24,6 @@ asked c = nine_yes _ _ (sym c.of_state-q.ensures ∙ c.if-q-ne0.false)
 element-copy-out-if2 : tie.Need-bounds-t-position
 element-copy-out-if2 c = let o = opened _ _ (asked c.before).1 in omega (arith, o.below, o.facts.few)
 
-returns-2 : tie.Need-returns-then-t-position-eq1
-unfolding turn_answer
-returns-2 c = let e = asked c.before.before.before in sym (turn_passed _ _ _ e.0 ∙ device_awaited _ _ e.1 c.if-t-position-eq1.true)
-
-returns-3 : tie.Need-returns
-unfolding turn_answer
-returns-3 c = let e = asked c.before.before.before in sym (turn_passed _ _ _ e.0 ∙ host_awaited _ _ e.1 c.if-t-position-eq1.false)
-
 pub whose_turn_spec : {M : Type 1} → statement M
 whose_turn_spec =
     tie.close
@@ -43,5 +34,5 @@ whose_turn_spec =
     (λ c. search rules)
     (λ c. search rules)
     element-copy-out-if2
-    returns-2
-    returns-3)
+    (λ c. device_turn _ _ _ (asked c.before.before.before) (omega arith))
+    (λ c. host_turn _ _ _ (asked c.before.before.before) (omega arith)))

@@ -1,6 +1,7 @@
 -- `monitor::straight::takes` meets its contract: nothing is said of 128, and the rest is one law. Assumes nothing.
-use mathlib.Core.Path.{sym, ◌∙◌}
+use mathlib.Core.Path.{◌≡◌, sym, ◌∙◌}
 use native.Mathlib.Omega.{arith}
+use lib.ListN.{length}
 use borrow.Author.Rules.{rules}
 use Rattle.table.proofs.laws.View.{sound_facts}
 use Rattle.monitor.proofs.laws.Carried.{straight, straight_alone}
@@ -28,14 +29,11 @@ returns-4 c l = absurd (omega arith)
 held-requires : tie.Need-held-requires
 held-requires c κs = (c.requires, c.if-n-b.false, c.if-size-lt9.false)
 
-returns-5 : tie.Need-returns-then-held-size
-returns-5 c l = absurd (omega arith)
-
-returns-6 : tie.Need-returns
-returns-6 c l =
+returns-5 : tie.Need-returns
+returns-5 c l =
     let a = c.args in
     let nine = c.if-size-lt9.false in
-    let size = c.if-held-size.false in
+    let size : c.held.result ≡ length a.message.now = omega arith in
     straight_alone a.t.now a.position a.message.now a.room _ _
     (straight a.t.now c.requires a.message.now nine a.position c.find-b.result c.find-b.ensures c.if-n-b.false
     _ (c.held.ensures (λ z. omega (arith, z, size, nine))) a.room (omega (arith, size, c.if-room-size.false)))
@@ -54,5 +52,5 @@ takes_spec =
     find-requires
     returns-4
     held-requires
-    returns-5
-    returns-6)
+    (λ c l. absurd (omega arith))
+    returns-5)
