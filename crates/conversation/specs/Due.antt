@@ -57,7 +57,7 @@ due_at (refused q) device host = cut device 0
 unfoldable pub due : Words → State → Bor (List ℕ) → Bor (List ℕ) → Seen
 due t s device host = due_at (awaited t s) device host
 
--- a well_formed message that waits first on the side whose turn it is is due, whatever waits behind it
+-- a well-formed message that waits first on the side whose turn it is is due, whatever waits behind it
 abbrev pub DueFound : Type 0
 DueFound =
     (t : Words) (s : State) (device host : Bor (List ℕ)) (message rest : List ℕ) → well_formed message ≡ true

@@ -1,4 +1,4 @@
--- No byte is lost: what a batch uses of a side's bytes is a row of well_formed messages, and what it writes is their first bytes,
+-- No byte is lost: what a batch uses of a side's bytes is a row of well-formed messages, and what it writes is their first bytes,
 -- unchanged. As long as messages are forwarded, as many are written as used.
 -- Assumes nothing.
 use mathlib.Core.Path.{◌≡◌, refl, sym, ap, subst, ◌∙◌}
