@@ -54,7 +54,7 @@ pub record MovesPlayed : Type 0 where
   pub no_message_of_it : run (table_rules (to_ten T.sends)) (table_rules (to_nine T.sends)) (device_says (A_int 11) ∷ [])
       ≡ record { state = 0; position = 0; standing = running }
   pub not_sending : run PP PP (device_says (ask 100) ∷ device_says quit ∷ []) ≡ record { state = 1; position = 1; standing = running }
-  -- "A host move brings any well_formed message: out of turn or at an end it changes nothing; if the protocol forbids it the host is blamed; if the
+  -- "A host move brings any well-formed message: out of turn or at an end it changes nothing; if the protocol forbids it the host is blamed; if the
   -- device's state takes it both go on likewise, else jammed."
   pub device_narrow : run (table_rules (to_nine T.receives)) (table_rules (to_ten T.receives)) (host_says (A_int 10) ∷ [])
       ≡ record { state = 0; position = 0; standing = jammed }
@@ -80,7 +80,7 @@ pub record MovesPlayed : Type 0 where
   pub before_any : ((run (table_rules (to_ten T.sends)) (table_rules (to_ten T.receives)) []).standing ≡ jammed)
       × ((run (table_rules E_seen) (table_rules (to_ten T.receives)) []).standing ≡ jammed)
       × (run (table_rules E_seen) PP [] ≡ record { state = 0; position = 0; standing = jammed })
-  -- "A move is a side and a well_formed message"
+  -- "A move is a side and a well-formed message"
   pub no_move : run PP (table_rules (P_under 2)) (host_says [] ∷ []) ≡ record { state = 0; position = 0; standing = running }
   pub real_moves : (moves (host_says ok ∷ device_says quit ∷ []) ≡ true) × (moves (host_says ok ∷ device_says [] ∷ []) ≡ false)
   -- what demand 3 rules out: the device blamed, the machine jammed

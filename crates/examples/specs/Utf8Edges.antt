@@ -1,4 +1,4 @@
--- RFC 3629's well_formed UTF-8 at the edges of every rule (request 6: "lead bytes and continuation ranges included").
+-- RFC 3629's well-formed UTF-8 at the edges of every rule (request 6: "lead bytes and continuation ranges included").
 -- Assumes nothing.
 use Rattle.std.specs.Prelude.{◌≡◌, Bool, true, false, cond, List, [], ◌∷◌, ℕ}
 use Rattle.utf8.specs.Utf8.{is_utf8}

@@ -82,7 +82,7 @@ abbrev pub EachTextEncoded : Type 0
 EachTextEncoded =
     (bytes : List ℕ) → legal_texts bytes ≡ true ↔ ((f : ℕ) → f < length (texts_of bytes) → Encoded (slice_index_or (texts_of bytes) f []))
 
--- of a well_formed message there is one for each field, as long as the field announces; one behind the other they are all that stands
+-- of a well-formed message there is one for each field, as long as the field announces; one behind the other they are all that stands
 -- behind the arrays, so that no byte is left out and none is in two
 abbrev pub TextsApart : Type 0
 TextsApart =

@@ -5,7 +5,7 @@ ghost use Rattle.std.specs.Prelude.{◌≡◌, true, ◌+◌, ◌≤◌, ◌<◌
 ghost use Rattle.utf8.specs.Utf8.{is_utf8, within, ◌to◌};
 ghost use Rattle.utf8.specs.inner.Characters.{is_ascii, Ascii, AsciiTo, Width, char_size, second, low_first};
 
-// Whether the bytes are well_formed UTF-8: a word at a time behind an ASCII byte, else one character after another.
+// Whether the bytes are well-formed UTF-8: a word at a time behind an ASCII byte, else one character after another.
 pub fn is_utf8(bytes: &[u8]) -> bool
     ensures { result ≡ is_utf8 bytes.now }
 {

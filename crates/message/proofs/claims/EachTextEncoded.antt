@@ -1,4 +1,4 @@
--- Each text of a well_formed message is an encoding, and one behind the other they are all that stands behind the arrays.
+-- Each text of a well-formed message is an encoding, and one behind the other they are all that stands behind the arrays.
 -- Assumes nothing.
 use Rattle.std.proofs.Common.{◌≡◌, ◌+◌, ◌*◌, [], length, get_or, drop, arith, length-drop, eqb-true}
 use Rattle.utf8.proofs.claims.EncodedExactly.{encoded_exactly}

@@ -1,4 +1,4 @@
--- The texts behind the arrays, one by one: what a text leaves decides the rest. Those of a well_formed message are encodings.
+-- The texts behind the arrays, one by one: what a text leaves decides the rest. Those of a well-formed message are encodings.
 -- Assumes nothing.
 use Rattle.std.proofs.Common.{◌≡◌, ℕ, zero, suc, ◌+◌, ◌-◌, ◌*◌, ◌<◌, ◌≤◌, Bool, true, ◌&&◌, ◌⊎◌, List, [], ◌∷◌, ◌++◌, map, length, get_or, take, drop, sym, refl, ap, ◌∙◌, ap₂, ⊎_elim, le_of_suc-le-suc, not-suc-le-zero, arith, length-drop, take-append-drop, drop_of_length-le, length-take-le, take_all, drop-cons, get_or-take, drop-drop, take-add, drop_at}
 use mathlib.Core.List.{flatten}
@@ -90,7 +90,7 @@ module _ (bytes : List ℕ) (arrays : 9 + 5 * count_of bytes ≤ length bytes) w
   texts_end f at l =
       ap (λ vs. every is_utf8 (cut_up vs (drop at bytes))) (drop_of_length-le (values_of bytes) {i = f} (omega (arith, values_length bytes arrays)))
 
--- ---- the texts of a well_formed message
+-- ---- the texts of a well-formed message
 
 -- where the fields announce all that is there
 pub cut_lengths : (vs : List Value) (bs : List ℕ) → text_bytes vs ≡ length bs → map length (cut_up vs bs) ≡ map text_length vs

@@ -83,7 +83,7 @@ all_encoded (n ∷ ns) e =
     let p = both (scalar n) (scalars ns) e in
     encoded n (encode_all ns) p.0 ∙ all_encoded ns p.1
 
--- ---- well_formed bytes begin with an encoding
+-- ---- well-formed bytes begin with an encoding
 
 -- a character, and what is behind it
 record Char (bs : List ℕ) : Type 0 where
