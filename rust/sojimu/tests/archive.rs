@@ -5,7 +5,8 @@ use std::path::{Path, PathBuf};
 use std::process::Command;
 use std::time::{Duration, SystemTime};
 
-/// A copy of this package at `rust/sojimu` in a folder of its own, two folders deep, so that all places are inside.
+/// A copy of this package at `rust/sojimu` in a folder of its own, two folders deep, so that all places are inside. It is outside the
+/// repository, where the gate takes no source but the crates', and goes with its test.
 struct Copy {
     outside: PathBuf,
 }
@@ -19,7 +20,8 @@ struct Built {
 impl Copy {
     /// One with nothing beside it.
     fn new(name: &str) -> Copy {
-        let outside = Path::new(env!("CARGO_TARGET_TMPDIR")).join("archive").join(name);
+        let outside =
+            std::env::temp_dir().canonicalize().unwrap().join(format!("sojimu-archive-{name}-{}", std::process::id()));
         fs::remove_dir_all(&outside).ok();
         let copy = Copy { outside };
         let own = Path::new(env!("CARGO_MANIFEST_DIR"));
@@ -65,6 +67,12 @@ impl Copy {
     /// Builds the package; an empty name is none.
     fn build(&self, lib_dir: &str) -> Built {
         self.build_with(lib_dir, &[])
+    }
+}
+
+impl Drop for Copy {
+    fn drop(&mut self) {
+        fs::remove_dir_all(&self.outside).ok();
     }
 }
 
