@@ -10,7 +10,7 @@ returns c =
     let y = x.before.before.before.before.before.before in
     let z = y.before.before.before.before in
     let a = z.before.before.before.before.before.before.args in
-    batch_crossed _ _ a.state.now a.counts.now _ _ _ _ _ _ _ z.state_in.ensures y.batch.ensures x.renew.ensures c.tell.ensures
+    batch_crossed _ _ a.state.now a.counts.now _ _ _ _ _ _ _ z.state_in-s.ensures y.batch-r.ensures x.renew.ensures c.tell.ensures
 
 pub sojimu_raw_batch_spec : {M : Type 1} → statement M
 sojimu_raw_batch_spec =

@@ -21,7 +21,7 @@ returns c =
     let y = x.before.before in
     let a = y.before.before.before.args in
     told_of _ _ _ _ _ (y.before.branch_of.ensures a.table.now _ a.out.now ∙ y.high_of.ensures a.table.now a.branch a.out.now)
-    c.made_codes.ensures x.make.ensures.0 x.make.ensures.1
+    c.made_codes.ensures x.make-r.ensures.0 x.make-r.ensures.1
 
 pub sojimu_raw_make_spec : {M : Type 1} → statement M
 sojimu_raw_make_spec =

@@ -7,35 +7,30 @@ use Rattle.codes.specs.Calls.{due_codes}
 use Rattle.sojimu.proofs.steps.sojimu_raw_due.Statement.{statement}
 use Rattle.sojimu.proofs.steps.sojimu_raw_due.Tie as tie
 
-returns : tie.Need-returns
+returns : tie.Need-returns-in-Refused
 unfolding due_codes turn_answer
 returns c =
-    let x = c.before.before in
-    let a = x.before.before.before.before.args in
+    let a = c.args in
     ap (λ o. due_codes o a.device.now a.host.now)
-    (sym (ap turn_answer c.enum_told.given.1) ∙ x.whose-turn.ensures ∙ ap (λ s. counted_turn a.table.now s a.counts.now) x.before.state_in.ensures)
+    (sym (ap turn_answer c.in-Refused.is) ∙ c.whose_turn-turn.ensures ∙ ap (λ s. counted_turn a.table.now s a.counts.now) c.state_in-s.ensures)
 
-returns-2 : tie.Need-returns-2
+returns-2 : tie.Need-returns-in-Device
 unfolding due_codes turn_answer
 returns-2 c =
-    let y = c.before.before.before.before in
-    let x = y.before.before in
-    let a = x.before.before.before.before.args in
+    let a = c.args in
     c.first_of.ensures
     ∙ ap (λ o. due_codes o a.device.now a.host.now)
-    (sym (ap turn_answer y.turn.given.1 ∙ ap of_side c.before.enum-told2.given.1)
-    ∙ x.whose-turn.ensures ∙ ap (λ s. counted_turn a.table.now s a.counts.now) x.before.state_in.ensures)
+    (sym (ap turn_answer c.in-Of.is ∙ ap of_side c.in-Device.is)
+    ∙ c.whose_turn-turn.ensures ∙ ap (λ s. counted_turn a.table.now s a.counts.now) c.state_in-s.ensures)
 
-returns-3 : tie.Need-returns-3
+returns-3 : tie.Need-returns-in-Host
 unfolding due_codes turn_answer
 returns-3 c =
-    let y = c.before.before.before.before in
-    let x = y.before.before in
-    let a = x.before.before.before.before.args in
-    c.first-of2.ensures
+    let a = c.args in
+    c.first_of-in-Host.ensures
     ∙ ap (λ o. due_codes o a.device.now a.host.now)
-    (sym (ap turn_answer y.turn.given.1 ∙ ap of_side c.before.enum-told3.given.1)
-    ∙ x.whose-turn.ensures ∙ ap (λ s. counted_turn a.table.now s a.counts.now) x.before.state_in.ensures)
+    (sym (ap turn_answer c.in-Of.is ∙ ap of_side c.in-Host.is)
+    ∙ c.whose_turn-turn.ensures ∙ ap (λ s. counted_turn a.table.now s a.counts.now) c.state_in-s.ensures)
 
 pub sojimu_raw_due_spec : {M : Type 1} → statement M
 sojimu_raw_due_spec =

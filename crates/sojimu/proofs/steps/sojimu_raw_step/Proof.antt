@@ -4,22 +4,18 @@ use Rattle.sojimu.proofs.laws.Parts.{no_side, crossed, uncrossed}
 use Rattle.sojimu.proofs.steps.sojimu_raw_step.Statement.{statement}
 use Rattle.sojimu.proofs.steps.sojimu_raw_step.Tie as tie
 
-returns : tie.Need-returns
+returns : tie.Need-returns-then-side-gt1
 returns c =
-    let x = c.before.before.before in
-    let y = x.before in
-    let a = y.before.before.before.before.before.args in
-    uncrossed _ _ a.side a.state.now a.counts.now a.message.now a.out.now _ _ y.state_of.ensures (no_side a.side x.if1.true)
-    c.before.unspoken.ensures c.verdict_codes.ensures
+    let a = c.args in
+    uncrossed _ _ a.side a.state.now a.counts.now a.message.now a.out.now _ _ c.state_of-s.ensures (no_side a.side c.if-side-gt1.true)
+    c.unspoken-refusal.ensures c.verdict_codes.ensures
 
-returns-2 : tie.Need-returns-2
+returns-2 : tie.Need-returns
 returns-2 c =
-    let x = c.before.before.before.before.before in
-    let y = x.before.before.before.before.before in
-    let a = y.before.before.before.before.before.args in
-    crossed _ _ a.side _ a.state.now a.counts.now a.message.now a.out.now _ _ _ _ _ y.state_of.ensures
-    (x.before.before.before.party-of.ensures x.before.before.before.before.if1.false)
-    x.step.ensures c.before.keep.ensures c.verdict-codes2.ensures
+    let a = c.args in
+    crossed _ _ a.side _ a.state.now a.counts.now a.message.now a.out.now _ _ _ _ _ c.state_of-s.ensures
+    (c.party_of-speaker.ensures c.if-side-gt1.false)
+    c.step-r.ensures c.keep.ensures c.verdict_codes-2.ensures
 
 pub sojimu_raw_step_spec : {M : Type 1} → statement M
 sojimu_raw_step_spec =

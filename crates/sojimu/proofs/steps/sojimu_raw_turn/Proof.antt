@@ -11,7 +11,7 @@ returns c =
     let x = c.before.before in
     let a = x.before.args in
     c.turn_codes.ensures
-    ∙ ap turn_codes (c.before.whose-turn.ensures ∙ ap (λ s. counted_turn a.table.now s a.counts.now) x.state_in.ensures)
+    ∙ ap turn_codes (c.before.whose_turn-turn.ensures ∙ ap (λ s. counted_turn a.table.now s a.counts.now) x.state_in-s.ensures)
 
 pub sojimu_raw_turn_spec : {M : Type 1} → statement M
 sojimu_raw_turn_spec =

@@ -11,7 +11,7 @@ returns c =
     let x = c.before.before in
     let a = x.before.args in
     c.warning_codes.ensures
-    ∙ ap warning_codes (c.before.of-branch.ensures ∙ ap (λ s. warning a.table.now s a.counts.now a.branch) x.state_in.ensures)
+    ∙ ap warning_codes (c.before.of_branch-r.ensures ∙ ap (λ s. warning a.table.now s a.counts.now a.branch) x.state_in-s.ensures)
 
 pub sojimu_raw_warning_spec : {M : Type 1} → statement M
 sojimu_raw_warning_spec =

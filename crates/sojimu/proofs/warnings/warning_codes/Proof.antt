@@ -1,10 +1,10 @@
 -- `sojimu::warnings::warning_codes` meets its contract. Assumes nothing.
 use mathlib.Core.Path.{◌≡◌}
-use mathlib.Core.Logic.{⊎_elim}
 use mathlib.Core.Bool.{Bool, true, false, cond}
 use Prim.Native.Nat.{ℕ}
 use borrow.Author.Rules.{rules}
 use Rattle.conversation.specs.Warning.{notice_of}
+use Rattle.sojimu.proofs.warnings.warning_codes.Lts.{then-warns, else-warns}
 use Rattle.sojimu.proofs.warnings.warning_codes.Statement.{statement}
 use Rattle.sojimu.proofs.warnings.warning_codes.Tie as tie
 
@@ -12,15 +12,19 @@ use Rattle.sojimu.proofs.warnings.warning_codes.Tie as tie
 coded : {v w : Bool} {n : ℕ} → n ≡ cond v 1 0 → w ≡ v → n ≡ cond w 1 0
 coded e f = rw f e
 
-returns : tie.Need-returns
+returns : tie.Need-returns-in-Refused
 unfolding notice_of
-returns c = rw c.before.w.given.1
+returns c = rw c.in-Refused.is
 
-returns-2 : tie.Need-returns-2
+returns-2 : tie.Need-returns-after-warns
 unfolding notice_of
 returns-2 c =
-    let x = c.before.before.before.before.w2.given in
-    rw (c.estimate_code.ensures, c.before.party_code.ensures, x.1, ⊎_elim (λ h. coded {v = true} h.1 h.0.taken) (λ h. coded {v = false} h.1 h.0.left) c.before.before.if1.branch)
+    let warns : c.if-warns.result ≡ cond c.in-Tells.warns 1 0 =
+    elim c.if-warns.branch [
+      | then-warns w ↦ coded {v = true} w.result-is w.if-warns.true
+      | else-warns w ↦ coded {v = false} w.result-is w.if-warns.false
+    ] in
+    rw (c.estimate_code.ensures, c.party_code.ensures, c.in-Tells.is, warns)
 
 pub warning_codes_spec : {M : Type 1} → statement M
 warning_codes_spec =
