@@ -9,56 +9,52 @@ use Rattle.report.proofs.compare.Tie as tie
 
 moves-requires : tie.Need-moves-requires
 moves-requires c κs =
-    let s = c.before.before.before.before.before.before.before.before.before.before.before.before.before in
-    let k = c.before.before.before.before.before.before.before.before.before.before.check in (
-      shows s.args.d.now s.args.p.now s.requires.0 s.requires.1 (replicate 1024 0) _ (length-replicate {A = ℕ} 1024 0)
-          k.result k.ensures c.before.before.before.before.before.before.before.r2.given.1,
-      c.before.before.before.before.head.ensures.1,
-      omega (arith, s.requires.2, c.before.before.before.before.head.auto.0),
+    let k = c.check-r in (
+      shows c.args.d.now c.args.p.now c.requires.0 c.requires.1 (replicate 1024 0) _ (length-replicate {A = ℕ} 1024 0)
+          k.result k.ensures c.in-Fails.is,
+      c.head-at.ensures.1,
+      omega (arith, c.requires.2, c.head-at.auto.out),
     )
 
-returns : tie.Need-returns
+returns : tie.Need-returns-in-Fits
 returns c =
-    let s = c.before.before.before.before.before.before.before.before.before.before.before in
-    let k = c.before.before.before.before.before.before.before.before.check in
+    let k = c.check-r in
     opened_one
-    (answered_fits s.args.d.now s.args.p.now s.requires.0 s.requires.1 (replicate 1024 0) _ (length-replicate {A = ℕ} 1024 0)
-    k.result k.ensures c.before.before.before.before.before.r.given.1)
-    (omega (arith, s.requires.2)) c.before.before.fit.ensures
+    (answered_fits c.args.d.now c.args.p.now c.requires.0 c.requires.1 (replicate 1024 0) _ (length-replicate {A = ℕ} 1024 0)
+    k.result k.ensures c.in-Fits.is)
+    (omega (arith, c.requires.2)) c.fit.ensures
 
-returns-2 : tie.Need-returns-2
+returns-2 : tie.Need-returns-in-Fails
 returns-2 c =
-    let s = c.before.before.before.before.before.before.before.before.before.before.before.before.before.before.before.before in
-    let k = c.before.before.before.before.before.before.before.before.before.before.before.before.before.check in
-    let e = c.before.before.before.before.before.before.before.before.before.before.r2.given.1 in
+    let k = c.check-r in
+    let e = c.in-Fails.is in
     let l = length-replicate {A = ℕ} 1024 0 in
     opened_two _ _
-    (answered_fails s.args.d.now s.args.p.now s.requires.0 s.requires.1 (replicate 1024 0) _ l k.result k.ensures e)
-    (no_fit_is s.args.d.now s.args.p.now s.requires.0 s.requires.1 (replicate 1024 0) _ l k.result k.ensures e)
-    (omega (arith, s.requires.2)) c.before.before.before.before.before.before.before.head.ensures
-    c.before.before.moves.ensures
+    (answered_fails c.args.d.now c.args.p.now c.requires.0 c.requires.1 (replicate 1024 0) _ l k.result k.ensures e)
+    (no_fit_is c.args.d.now c.args.p.now c.requires.0 c.requires.1 (replicate 1024 0) _ l k.result k.ensures e)
+    (omega (arith, c.requires.2)) c.head-at.ensures
+    c.moves.ensures
 
-returns-3 : tie.Need-returns-3
+returns-3 : tie.Need-returns-in-Refused
 returns-3 c =
-    let s = c.before.before.before.before.before.before in
-    let k = c.before.before.before.check in
-    never_refused s.args.d.now s.args.p.now s.requires.0 s.requires.1 (replicate 1024 0) _ (length-replicate {A = ℕ} 1024 0)
-    k.result k.ensures c.enum_told.given.1
+    let k = c.check-r in
+    never_refused c.args.d.now c.args.p.now c.requires.0 c.requires.1 (replicate 1024 0) _ (length-replicate {A = ℕ} 1024 0)
+    k.result k.ensures c.in-Refused.is
 
 pub compare_spec : {M : Type 1} → statement M
 compare_spec =
     tie.close
     (tie.spec
-    (λ c. search rules)  -- slice-aggregate-check
-    (λ c. search rules)  -- check-requires
-    (λ c. search rules)  -- enum-known-r
+    (λ c. search rules)  -- slice_bounds-check-end
+    (λ c. search rules)  -- check-r-requires
+    (λ c. search rules)  -- enum_known-r
     (λ c. search rules)  -- fit-requires
-    (λ c. search rules)  -- enum-known-r-2
-    (λ c. search rules)  -- head-requires
+    (λ c. search rules)  -- enum_known-r-in-Fails-1
+    (λ c. search rules)  -- head-at-requires
     moves-requires
-    (λ c. search rules)  -- enum_told
-    (λ c. search rules)  -- same-length
+    (λ c. search rules)  -- enum_told-1
+    (λ c. search rules)  -- shape_of-out-in-Fits
     returns
-    (λ c. search rules)  -- same-length-2
+    (λ c. search rules)  -- shape_of-out-in-Fails
     returns-2
     returns-3)

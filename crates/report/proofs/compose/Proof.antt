@@ -6,39 +6,39 @@ use Rattle.report.proofs.laws.Reported.{sound_of_is, composed_protocol, composed
 use Rattle.report.proofs.compose.Statement.{statement}
 use Rattle.report.proofs.compose.Tie as tie
 
-returns : tie.Need-returns
+returns : tie.Need-returns-then-p-ne0
 unfolding whose_of
 returns c =
-    let a = c.before.before.before.before.before.before.args in
+    let a = c.args in
     composed_protocol a.protocol.now a.device.now a.out.now _
-    c.before.before.before.read.ensures c.before.before.if1.true
+    c.read-p.ensures c.if-p-ne0.true
     (search rules) c.refused.ensures
 
-returns-2 : tie.Need-returns-2
+returns-2 : tie.Need-returns-then-d-ne0
 unfolding whose_of
 returns-2 c =
-    let a = c.before.before.before.before.before.before.before.before.args in
+    let a = c.args in
     composed_device a.protocol.now a.device.now a.out.now _
-    c.before.before.before.before.before.read.ensures c.before.before.before.before.if1.false _
-    c.before.before.before.read2.ensures c.before.before.if2.true
+    c.read-p.ensures c.if-p-ne0.false _
+    c.read-d.ensures c.if-d-ne0.true
     (search rules)
-    c.refused2.ensures
+    c.refused-then-d-ne0.ensures
 
 compare-requires : tie.Need-compare-requires
 compare-requires c κs = (
-  sound_of_is _ _ c.before.before.before.before.before.before.read2.ensures c.before.before.before.before.before.if2.false,
-  sound_of_is _ _ c.before.before.before.before.before.before.before.before.read.ensures
-      c.before.before.before.before.before.before.before.if1.false,
+  sound_of_is _ _ c.read-d.ensures c.if-d-ne0.false,
+  sound_of_is _ _ c.read-p.ensures
+      c.if-p-ne0.false,
   search rules,
 )
 
-returns-3 : tie.Need-returns-3
+returns-3 : tie.Need-returns
 returns-3 c =
-    let a = c.before.before.before.before.before.before.before.before.before.before.before.before.args in
+    let a = c.args in
     composed_compared a.protocol.now a.device.now a.out.now _
-    c.before.before.before.before.before.before.before.before.before.read.ensures
-    c.before.before.before.before.before.before.before.before.if1.false _
-    c.before.before.before.before.before.before.before.read2.ensures c.before.before.before.before.before.before.if2.false
+    c.read-p.ensures
+    c.if-p-ne0.false _
+    c.read-d.ensures c.if-d-ne0.false
     c.compare.ensures
 
 pub compose_spec : {M : Type 1} → statement M
@@ -46,13 +46,13 @@ compose_spec =
     tie.close
     (tie.spec
     (λ c κs. search rules)
-    (λ c. record { fits = (small _ _ c.before.before.read.ensures).0 })
-    (λ c. record { fits = (small _ _ c.before.before.read.ensures).1 })
+    (λ c. record { fits = (small _ _ c.read-p.ensures).0 })
+    (λ c. record { fits = (small _ _ c.read-p.ensures).1 })
     (λ c κs. search rules)
     returns
     (λ c κs. search rules)
-    (λ c. record { fits = (small _ _ c.before.before.read2.ensures).0 })
-    (λ c. record { fits = (small _ _ c.before.before.read2.ensures).1 })
+    (λ c. record { fits = (small _ _ c.read-d.ensures).0 })
+    (λ c. record { fits = (small _ _ c.read-d.ensures).1 })
     (λ c κs. search rules)
     returns-2
     compare-requires

@@ -218,7 +218,7 @@ module _ (d p : Words) (sd : sound_of d ≡ true) (sp : sound_of p ≡ true) (i 
 low_on : (left : List ℕ) (h : Option ℕ) → 0 < length left → at_last left h ≡ none
 unfolding at_last
 low_on [] h l = absurd (omega (arith, l))
-low_on (n ∷ left) h l = refl
+low_on (n ∷ _) h l = refl
 
 module _ (d p : Words) (ks : List ℕ) (h : Option ℕ) (sd : sound_of d ≡ true) (sp : sound_of p ≡ true)
     {at : ℕ} {before now : List ℕ} {r : Pair} {next n : ℕ} (g : Playing d p ks h at before now r next n) where

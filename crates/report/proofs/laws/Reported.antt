@@ -7,7 +7,7 @@ use mathlib.Core.List.{List, [], ◌∷◌, ◌++◌}
 use Prim.Native.Nat.{ℕ, suc, ◌+◌, ◌*◌, ◌≤◌, ◌<◌}
 use native.Mathlib.Omega.{arith}
 use lib.ListN.{length, take, drop, length-append, length-drop}
-use lib.Seq.{take_at, length-take-le, take-length, take-append_seam}
+use lib.Seq.{take_at, take-append_seam}
 use lib.Dec.{eqb}
 use borrow.Author.Tests.{le-leb, lt-leb, eqb-true, eqb-false}
 use Rattle.table.specs.Lists.{first_no}
@@ -228,14 +228,10 @@ module _ (protocol device buffer : List ℕ) {zeros after : List ℕ} {x : ℕ} 
       record { text = c.text; reported = c.reported; some = reported_some _ _ _ c.reported; most = most; answer = rw no refl; buffer = rw no refl }
 
   -- the buffer holds it
-  pub copied_fits : x ≤ length buffer → length (take x after) ≤ length buffer
-  copied_fits held = subst (λ n. n ≤ length buffer) (sym (length-take-le x after composed_room)) held
-
-  pub written_whole : (filled : List ℕ) → (x ≤ length buffer)
-      → filled ≡ take (length (take x after)) (take x after) ++ drop (length (take x after)) buffer
-      → Written protocol device buffer filled x
+  pub written_whole : x ≤ length buffer → (front : List ℕ) → front ≡ take x after
+      → Written protocol device buffer (front ++ drop x buffer) x
   unfolding opening
-  written_whole filled held e =
+  written_whole held front e =
       let yes = le-leb (length c.text) (length buffer) (omega (arith, c.long, held)) in
       let whole : take x after ≡ c.text = ap₂ take c.long c.opened ∙ take-append_seam c.text (drop (length c.text) zeros) in
       record {
@@ -245,6 +241,5 @@ module _ (protocol device buffer : List ℕ) {zeros after : List ℕ} {x : ℕ} 
         most = most;
         answer = rw yes c.long;
         buffer =
-            rw yes (e ∙ ap (λ (l : List ℕ). take (length l) l ++ drop (length l) buffer) whole
-            ∙ ap (λ (l : List ℕ). l ++ drop (length c.text) buffer) (take-length c.text));
+            rw yes (ap₂ (λ (l : List ℕ) (n : ℕ). l ++ drop n buffer) (e ∙ whole) c.long);
       }

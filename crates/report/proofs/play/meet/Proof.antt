@@ -7,14 +7,14 @@ use Rattle.report.proofs.play.meet.Tie as tie
 
 returns : tie.Need-returns
 returns c =
-    let a = c.before.before.before.before.args in
-    c.settle.ensures ∙ ap₂ (settled a.i a.j a.side) c.before.before.hear.ensures c.before.hear2.ensures
+    let a = c.args in
+    c.settle.ensures ∙ ap₂ (settled a.i a.j a.side) c.hear-own.ensures c.hear-other.ensures
 
 pub meet_spec : {M : Type 1} → statement M
 meet_spec =
     tie.close
     (tie.spec
-    (λ c. search rules)  -- hear-requires
-    (λ c. search rules)  -- hear-requires-2
+    (λ c. search rules)  -- hear-own-requires
+    (λ c. search rules)  -- hear-other-requires
     (λ c. search rules)  -- settle-requires
     returns)

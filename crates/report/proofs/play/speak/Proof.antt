@@ -12,36 +12,32 @@ few c = let r = c.requires.0 in omega (arith, r.i_inside, (sound_facts _ r.d_sou
 
 say-requires : tie.Need-say-requires
 say-requires c κs =
-    let s = c.before.before.before.before.before in
-    let r = speaks_device s.requires.0 c.before.before.if1.true in
-    (s.requires.0.d_sound, r.has, s.requires.1, s.requires.2)
+    let r = speaks_device c.requires.0 c.if-d-i-eq1.true in
+    (c.requires.0.d_sound, r.has, c.requires.1, c.requires.2)
 
-returns : tie.Need-returns
+returns : tie.Need-returns-then-d-i-eq1
 returns c =
-    let s = c.before.before.before.before.before.before.before.before in
-    spoken_as (speaks_device s.requires.0 c.before.before.before.before.before.if1.true) c.before.before.say.ensures
+    spoken_as (speaks_device c.requires.0 c.if-d-i-eq1.true) c.say.ensures
 
 say-requires-2 : tie.Need-say-requires-2
 say-requires-2 c κs =
-    let s = c.before.before.before.before.before in
-    let r = speaks_host s.requires.0 c.before.before.if1.false in
-    (s.requires.0.p_sound, r.has, s.requires.1, s.requires.2)
+    let r = speaks_host c.requires.0 c.if-d-i-eq1.false in
+    (c.requires.0.p_sound, r.has, c.requires.1, c.requires.2)
 
-returns-2 : tie.Need-returns-2
+returns-2 : tie.Need-returns
 returns-2 c =
-    let s = c.before.before.before.before.before.before.before.before in
-    spoken_as (speaks_host s.requires.0 c.before.before.before.before.before.if1.false) c.before.before.say2.ensures
+    spoken_as (speaks_host c.requires.0 c.if-d-i-eq1.false) c.say-2.ensures
 
 pub speak_spec : {M : Type 1} → statement M
 speak_spec =
     tie.close
     (tie.spec
-    (λ c. omega (arith, few c.before))  -- add-if1
-    (λ c. omega (arith, few c.before))  -- mul-if1
-    (λ c. omega (arith, few c.before))  -- element-copy-out-if1
+    (λ c. omega (arith, few c.before))  -- overflow_add-i
+    (λ c. omega (arith, few c.before))  -- offset_bounds-d-i
+    (λ c. omega (arith, few c.before.before))  -- bounds-d-i
     say-requires
-    (λ c. search rules)  -- same-length
+    (λ c. search rules)  -- shape_of-out-then-d-i-eq1
     returns
     say-requires-2
-    (λ c. search rules)  -- same-length-2
+    (λ c. search rules)  -- shape_of-out
     returns-2)

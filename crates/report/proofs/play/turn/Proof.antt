@@ -14,42 +14,39 @@ use Rattle.report.proofs.laws.Effect.{effect_settled, said_size, both_turn}
 use Rattle.report.proofs.play.turn.Statement.{statement}
 use Rattle.report.proofs.play.turn.Tie as tie
 
-speak-requires : tie.Need-speak-requires
+speak-requires : tie.Need-speak-said-requires
 speak-requires c κs =
-    let s = c.before.before.before in
-    (s.requires.0.speaking, s.requires.1, length-replicate {A = ℕ} 285 0)
+    (c.requires.0.speaking, c.requires.1, length-replicate {A = ℕ} 285 0)
 
-array-share-prefix-message : tie.Need-array-share-prefix-message
-array-share-prefix-message c = let s = c.before.before.speak.ensures.said in omega (arith, s.full, s.short)
+array-share-prefix-message : tie.Need-slice_bounds-message-end
+array-share-prefix-message c = let s = c.speak-said.ensures.said in omega (arith, s.full, s.short)
 
-slice-aggregate-meet : tie.Need-slice-aggregate-meet
+slice-aggregate-meet : tie.Need-slice_bounds-meet-end
 slice-aggregate-meet c =
-    let s = c.before.before.before.speak.ensures.said in
+    let s = c.speak-said.ensures.said in
     sym (length-take-le _ _ (omega (arith, s.full, s.short)))
 
-meet-requires : tie.Need-meet-requires
+meet-requires : tie.Need-meet-pair-requires
 meet-requires c κs =
-    let s = c.before.before.before.before.before.before.before in
-    let w = c.before.before.before.speak.ensures in
-    let u = both_turn s.requires.0 w.turn in (
+    let w = c.speak-said.ensures in
+    let u = both_turn c.requires.0 w.turn in (
       u.0,
       u.1,
-      rw w.said.message_is s.requires.0.speaking.formed,
+      rw w.said.message_is c.requires.0.speaking.formed,
       rw w.said.message_is (said_size w.said),
     )
 
 returns : tie.Need-returns
 returns c =
-    let s = c.before.before.before.before.before.before.before.before in
-    let a = s.args in
-    let w = c.before.before.before.before.speak.ensures in
-    let u = both_turn s.requires.0 w.turn in
+    let a = c.args in
+    let w = c.speak-said.ensures in
+    let u = both_turn c.requires.0 w.turn in
     record {
       pair_is =
-          c.meet.ensures
-          ∙ ap (λ (x : List ℕ). settled a.i a.j c.before.before.before.before.speak.result.side
+          c.meet-pair.ensures
+          ∙ ap (λ (x : List ℕ). settled a.i a.j c.speak-said.result.side
           (allows (view a.d.now) a.i (read x)) (allows (view a.p.now) a.j (read x))) w.said.message_is
-          ∙ effect_settled (view a.d.now) (view a.p.now) a.i a.j _ _ w.whose s.requires.0.speaking.formed
+          ∙ effect_settled (view a.d.now) (view a.p.now) a.i a.j _ _ w.whose c.requires.0.speaking.formed
           u.0.turn u.1.turn;
       at_is = w.said.at_is;
       most = w.said.most;
@@ -65,5 +62,5 @@ turn_spec =
     array-share-prefix-message
     slice-aggregate-meet
     meet-requires
-    (λ c. search rules)  -- same-length
+    (λ c. search rules)  -- shape_of-out
     returns)

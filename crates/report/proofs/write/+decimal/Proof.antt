@@ -29,24 +29,24 @@ abbrev decimal-below : ℕ → In 1 decimal-kinds.ps
 decimal-below t = and 1 decimal-kinds.ps (falls 1 decimal-kinds.ps ◌<◌ μ-decimal t) decimal.Pre
 
 module _ (t : ℕ) where
-  returns : decimal-lts.Need-returns (decimal-below t, decimal.Post) (decimal-at t) decimal.Post
+  returns : decimal-lts.Need-returns-then-n-lt10 (decimal-below t, decimal.Post) (decimal-at t) decimal.Post
   returns c =
       let a = c.before.before.args in
-      rw (decimal_last a.n c.if1.true) (refl, omega arith, put_one a.out.now a.at (48 + a.n) (omega arith))
+      rw (decimal_last a.n c.if-n-lt10.true) (refl, omega arith, put_one a.out.now a.at (48 + a.n) (omega arith))
 
-  slice-write-out-2 : decimal-lts.Need-slice-write-out-2 (decimal-below t, decimal.Post) (decimal-at t) decimal.Post
+  slice-write-out-2 : decimal-lts.Need-bounds-out-next (decimal-below t, decimal.Post) (decimal-at t) decimal.Post
   slice-write-out-2 c =
       let n = c.before.before.before.before.before.before.args.n in
-      omega (arith, decimal_few 3 (n / 10) (omega arith), c.before.before.decimal.auto)
+      omega (arith, decimal_few 3 (n / 10) (omega arith), c.before.before.decimal-next.auto)
 
-  returns-2 : decimal-lts.Need-returns-2 (decimal-below t, decimal.Post) (decimal-at t) decimal.Post
+  returns-2 : decimal-lts.Need-returns (decimal-below t, decimal.Post) (decimal-at t) decimal.Post
   returns-2 c =
       let a = c.before.before.before.before.before.before.args in
-      let d = c.before.before.decimal in
+      let d = c.before.before.decimal-next in
       let n = a.n in
       let few = decimal_few 3 (n / 10) (omega arith) in
-      let tens = decimal_tens n c.before.before.before.before.if1.false (omega arith) in
-      let e = put_byte a.at d.result (A.decimal (n / 10)) a.out.now d.new.0 d.ensures.0 (omega arith)
+      let tens = decimal_tens n c.before.before.before.before.if-n-lt10.false (omega arith) in
+      let e = put_byte a.at d.result (A.decimal (n / 10)) a.out.now d.new.out d.ensures.0 (omega arith)
       d.ensures.2 (48 + n % 10) (omega arith) in (
         omega (arith, ap length tens, length-append (A.decimal (n / 10)) ((48 + n % 10) ∷ [])),
         omega arith,
@@ -72,5 +72,5 @@ pub +decimal_spec : {M : Type 1} → statement M
     (λ c. search rules)
     (slice-write-out-2 t)
     (λ c. search rules)
-    (λ c. simp length-set c.before.before.decimal.auto.0)
+    (λ c. simp length-set c.before.before.decimal-next.auto.out)
     (returns-2 t)

@@ -7,29 +7,27 @@ use Rattle.report.proofs.write.ending.Statement.{statement}
 use Rattle.report.specs.Report as R
 use Rattle.report.proofs.write.ending.Tie as tie
 
-returns : tie.Need-returns
+returns : tie.Need-returns-then-blamed
 unfolding R.ending R.line
 returns c =
-    let w = c.before.before.word in
-    let e : w.result ≡ c.before.before.before.before.before.before.before.args.at + 7 = w.ensures.0 in
-    rw c.before.before.before.before.before.if1.true (e, omega arith, w.ensures.1)
+    let w = c.word in
+    let e : w.result ≡ c.args.at + 7 = w.ensures.0 in
+    rw c.if-blamed.true (e, omega arith, w.ensures.1)
 
-returns-2 : tie.Need-returns-2
+returns-2 : tie.Need-returns-else-blamed
 unfolding R.ending R.line
 returns-2 c =
-    let w = c.before.before.word2 in
-    let e : w.result ≡ c.before.before.before.before.before.before.before.args.at + 7 = w.ensures.0 in
-    rw c.before.before.before.before.before.if1.false (e, omega arith, w.ensures.1)
+    let w = c.word-else-blamed in
+    let e : w.result ≡ c.args.at + 7 = w.ensures.0 in
+    rw c.if-blamed.false (e, omega arith, w.ensures.1)
 
 pub ending_spec : {M : Type 1} → statement M
 ending_spec =
     tie.close
     (tie.spec
-    (λ c. search rules)
-    (λ c. search rules)
-    (λ c. search rules)
-    (λ c. search rules)
-    (λ c. search rules)
+    (λ c. search rules)  -- word-requires
+    (λ c. search rules)  -- word-requires-else-blamed
+    (λ c. search rules)  -- shape_of-out-then-blamed
     returns
-    (λ c. search rules)
+    (λ c. search rules)  -- shape_of-out-else-blamed
     returns-2)

@@ -9,17 +9,15 @@ use Rattle.report.proofs.write.fit.Tie as tie
 returns : tie.Need-returns
 unfolding fit
 returns c =
-    let n = c.before.before.before.before.before.before.before.numbered in
-    line_laid 10 _ _ _ _ _ _ (omega arith) c.before.before.before.before.before.before.before.before.before.before.before.requires (n.ensures.0, n.ensures.2)
-    c.before.before.word.ensures
+    let n = c.numbered-a in
+    line_laid 10 _ _ _ _ _ _ (omega arith) c.requires (n.ensures.0, n.ensures.2)
+    c.word.ensures
 
 pub fit_spec : {M : Type 1} → statement M
 fit_spec =
     tie.close
     (tie.spec
-    (λ c. search rules)
-    (λ c. search rules)
-    (λ c. search rules)
-    (λ c. search rules)
-    (λ c. search rules)
+    (λ c. search rules)  -- numbered-a-requires
+    (λ c. search rules)  -- word-requires
+    (λ c. search rules)  -- shape_of-out
     returns)

@@ -7,17 +7,15 @@ use Rattle.report.proofs.write.head.Tie as tie
 
 returns : tie.Need-returns
 returns c =
-    let n = c.before.before.before.before.before.before.before.numbered in
-    line_laid 13 _ _ _ _ _ _ (omega arith) c.before.before.before.before.before.before.before.before.before.before.before.requires (n.ensures.0, n.ensures.2)
-    c.before.before.word.ensures
+    let n = c.numbered-a in
+    line_laid 13 _ _ _ _ _ _ (omega arith) c.requires (n.ensures.0, n.ensures.2)
+    c.word.ensures
 
 pub head_spec : {M : Type 1} → statement M
 head_spec =
     tie.close
     (tie.spec
-    (λ c. search rules)
-    (λ c. search rules)
-    (λ c. search rules)
-    (λ c. search rules)
-    (λ c. search rules)
+    (λ c. search rules)  -- numbered-a-requires
+    (λ c. search rules)  -- word-requires
+    (λ c. search rules)  -- shape_of-out
     returns)

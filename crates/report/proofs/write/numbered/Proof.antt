@@ -8,10 +8,10 @@ use Rattle.report.proofs.write.numbered.Tie as tie
 
 returns : tie.Need-returns
 returns c =
-    let a = c.before.before.before.before.before.before.before.before.before.before.args in
-    let w = c.before.before.before.before.before.before.word in
-    let d = c.before.before.decimal in
-    let e = laid_on a.at a.bytes.now (decimal a.n) a.out.now w.new.0 d.new.0 w.result d.result
+    let a = c.args in
+    let w = c.word-a in
+    let d = c.decimal in
+    let e = laid_on a.at a.bytes.now (decimal a.n) a.out.now w.new.out d.new.out w.result d.result
     (omega arith) w.ensures (d.ensures.0, d.ensures.2) in
     (e.0, omega arith, e.1)
 

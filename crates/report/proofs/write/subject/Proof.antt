@@ -6,31 +6,29 @@ use Rattle.report.specs.inner.Lines.{whose_of}
 use Rattle.report.proofs.write.subject.Statement.{statement}
 use Rattle.report.proofs.write.subject.Tie as tie
 
-returns : tie.Need-returns
+returns : tie.Need-returns-in-Protocol
 unfolding whose_of
 returns c =
-    let w = c.before.before.word in
+    let w = c.word in
     let e : w.result ≡ 8 = w.ensures.0 in
-    rw c.before.before.before.before.before.enum_told.given.1 (e, omega arith, w.ensures.1)
+    rw c.in-Protocol.is (e, omega arith, w.ensures.1)
 
-returns-2 : tie.Need-returns-2
+returns-2 : tie.Need-returns-in-Device
 unfolding whose_of
 returns-2 c =
-    let w = c.before.before.word2 in
+    let w = c.word-in-Device in
     let e : w.result ≡ 6 = w.ensures.0 in
-    rw c.before.before.before.before.before.enum-told2.given.1 (e, omega arith, w.ensures.1)
+    rw c.in-Device.is (e, omega arith, w.ensures.1)
 
 pub subject_spec : {M : Type 1} → statement M
 subject_spec =
     tie.close
     (tie.spec
-    (λ c. search rules)
-    (λ c. search rules)
-    (λ c. search rules)
-    (λ c. search rules)
-    (λ c. search rules)
-    (λ c. search rules)
-    (λ c. search rules)
+    (λ c. search rules)  -- enum_told-1
+    (λ c. search rules)  -- word-requires
+    (λ c. search rules)  -- enum_told-in-Device
+    (λ c. search rules)  -- word-requires-in-Device
+    (λ c. search rules)  -- shape_of-out-in-Protocol
     returns
-    (λ c. search rules)
+    (λ c. search rules)  -- shape_of-out-in-Device
     returns-2)
