@@ -1,4 +1,5 @@
-/* Sojimu: verified session monitoring, for C99 and C++11 or later on x86-64, which here means the System V ABI and ELF.
+/* Sojimu: verified session monitoring, for C99 and C++11 or later on x86-64, which here means the System V ABI and ELF, and a
+ * processor with SSE4.2 and POPCNT (x86-64-v2).
  *
  * A protocol is a session type, as a device sees it. A gateway reads its text into a table once (sojimu_read), keeps one state of
  * 324 bytes for each conversation (sojimu_fresh), and asks of every message whether it may pass (sojimu_step), or of all that wait
@@ -14,8 +15,7 @@
  *     of a question; three calls carry no number, and answer 0 instead: sojimu_due and sojimu_report a length, sojimu_label a
  *     label. A number that is too large is refused, never cut. On a refusal nothing that was lent is changed, any table given
  *     back is empty and any count 0.
- *   - An answer of zeros is never a yes: no outcome, side or standing has the code 0; a table or a state of zeros is refused by 9
- *     in every call that takes it, and a message of length 0 by 13.
+ *   - A table or a state of zeros is refused by 9 in every call that takes it, and a message of length 0 by 13.
  *   - Every byte of what is given back is determined: no struct here has padding.
  *   - No global state, no allocation, no lock, no call back, no input or output: calls may be made from any threads, as long as
  *     what one call writes (state, outputs, list) is in use by no other. Of the C library only memcpy and memset are called.
@@ -77,8 +77,8 @@ extern "C" {
 
 /* ---- constants */
 
-/* This header's version: raised whenever a struct, a code or a call changes. */
-#define SOJIMU_VERSION UINT32_C(7)
+/* This header's version: raised whenever a struct or a call changes. */
+#define SOJIMU_VERSION UINT32_C(6)
 
 /* Limits. A protocol's text has at most 8,192 bytes, a text in a message 64, a message 285; a list that question 17 never refuses
  * has 1,024 entries, a buffer that holds every report 16,384 bytes. As soon as SOJIMU_FRONT bytes are there, a message announces
@@ -143,29 +143,24 @@ enum { SOJIMU_KIND_INT = 0, SOJIMU_KIND_TEXT = 1, SOJIMU_KIND_FLAG = 2 };
 /* Numbers are kept in offset form: the value (of an int; a text's length; 0 or 1 of a flag) plus this. */
 #define SOJIMU_ORIGIN UINT32_C(0x80000000)
 
-/* Sides. 0 is nobody. */
-enum { SOJIMU_DEVICE = 1, SOJIMU_HOST = 2 };
+/* Sides. */
+enum { SOJIMU_DEVICE = 0, SOJIMU_HOST = 1 };
 
 /* A conversation's standing. */
-enum { SOJIMU_RUNNING = 16, SOJIMU_DEVICE_BLAMED = 17, SOJIMU_HOST_BLAMED = 18 };
+enum { SOJIMU_RUNNING = 0, SOJIMU_DEVICE_BLAMED = 1, SOJIMU_HOST_BLAMED = 2 };
 
-/* Outcomes, one list for all calls. A step's are the first three; of the last answer of a batch also that none was due; a fit
- * check's are that the device fits, that it fails, and refused. */
-enum {
-    SOJIMU_FORWARDED = 1,
-    SOJIMU_REFUSED = 2,
-    SOJIMU_BLAMED = 3,
-    SOJIMU_NONE_DUE = 4,
-    SOJIMU_FITS = 5,
-    SOJIMU_FAILS = 6
-};
+/* A step's outcome; of the last answer of a batch also that none was due. */
+enum { SOJIMU_FORWARDED = 0, SOJIMU_REFUSED = 1, SOJIMU_BLAMED = 2, SOJIMU_NONE_DUE = 3 };
 
 /* Why a sender is blamed: no such label; field count or kinds differ; a number outside its range; under edition 2, a message out
  * of turn, whatever else is wrong with it. */
 enum { SOJIMU_NO_LABEL = 1, SOJIMU_OTHER_KINDS = 2, SOJIMU_OUT_OF_RANGE = 3, SOJIMU_EARLY = 4 };
 
-/* In the place of a field's number: no field. Where a message is made or shown, no field is high and all numbers are low. */
-enum { SOJIMU_NO_FIELD = 255 };
+/* A fit check's outcome. */
+enum { SOJIMU_FITS = 0, SOJIMU_FAILS = 1, SOJIMU_FIT_REFUSED = 2 };
+
+/* In the place of a field's number: no field is high, all numbers are low. */
+enum { SOJIMU_ALL_LOW = 255 };
 
 /* In the place of an estimate: nothing has been counted yet. */
 enum { SOJIMU_NO_ESTIMATE = 65535 };
@@ -214,21 +209,20 @@ struct sojimu_state {
     uint16_t setting, n[32], k[128];
 };
 
-/* What a conversation is started with: question 0 and its state; or 9 or 21, and a state whose setting is 0, which every call
- * refuses by 9. */
+/* What a conversation is started with: question 0 and its state; or 9 or 21, and a state of 0 that every call refuses by 9. */
 struct sojimu_started {
     uint32_t question;
     struct sojimu_state state;
 };
 
-/* Whose turn it is: question 0 and SOJIMU_DEVICE or SOJIMU_HOST, or 9, 10 or 11 and side 0: nobody's. */
+/* Whose turn it is: question 0 and SOJIMU_DEVICE or SOJIMU_HOST, or 9, 10 or 11 and side 0. */
 struct sojimu_turn {
     uint32_t question, side;
 };
 
 /* A step's verdict, or the last answer of a batch. refused: `question` is 9 to 16 or 22, of a batch 9, 10, 16 or 22. blamed:
  * `party` is SOJIMU_DEVICE or SOJIMU_HOST, `reason` 1 to 4, of a batch 1 to 3, and with SOJIMU_OUT_OF_RANGE `field` is the first
- * field (from 0) that is outside its range. What does not apply is 0, of `field` SOJIMU_NO_FIELD. */
+ * field (from 0) that is outside its range. What does not apply is 0. */
 struct sojimu_verdict {
     uint8_t outcome, question, party, reason, field;
 };
@@ -244,7 +238,7 @@ struct sojimu_batch {
     uint8_t reserved[3];
 };
 
-/* The due part: the first `length` bytes of a side's waiting bytes. Length 0: nothing is due. Side 0: nor is it anybody's turn. */
+/* The due part: the first `length` bytes of a side's waiting bytes. Length 0: nothing is due. */
 struct sojimu_due {
     uint32_t side, length;
 };
@@ -255,15 +249,15 @@ struct sojimu_made {
 };
 
 /* What is told of a branch: question 0, whether it warns (1) or not (0), SOJIMU_DEVICE or SOJIMU_HOST, which sends at its choice,
- * and the estimate of its share in thousandths, or SOJIMU_NO_ESTIMATE. Or 9 or 18, and what does not apply is 0 (the sender:
- * nobody), of the estimate SOJIMU_NO_ESTIMATE. */
+ * and the estimate of its share in thousandths, or SOJIMU_NO_ESTIMATE. Or 9 or 18, and what does not apply is 0, of the estimate
+ * SOJIMU_NO_ESTIMATE. */
 struct sojimu_warning {
     uint32_t question, warns, sender, estimate;
 };
 
 /* A fit check's answer. fits: `count` is the number of reachable pairs of states. fails: `count` is the number of moves shown,
- * the fewest that show it, and `high` the field that is high in the last, or SOJIMU_NO_FIELD. refused: `question` is 9 or 17. What
- * does not apply is 0, of `high` SOJIMU_NO_FIELD. */
+ * the fewest that show it, and `high` the field that is high in the last, or SOJIMU_ALL_LOW. refused: `question` is 9 or 17. What
+ * does not apply is 0, of `high` SOJIMU_ALL_LOW. */
 struct sojimu_fit {
     uint32_t outcome, question, count, high;
 };
@@ -331,7 +325,7 @@ static inline uint8_t *sojimu_lent(const void *given, size_t length)
 }
 
 /* A state's two bytes, and its counts. */
-static inline uint8_t *sojimu_state_bytes(const struct sojimu_state *state)
+static inline uint8_t *sojimu_place(const struct sojimu_state *state)
 {
     return SOJIMU_POINTER(uint8_t *, SOJIMU_POINTER(uintptr_t, state));
 }
@@ -346,7 +340,7 @@ static inline uint16_t *sojimu_counts(const struct sojimu_state *state)
 /* The archive's version, by a name that carries it. Whatever includes this header refers to it, even where it calls nothing: an
  * archive of another version does not link, and the linker's message has this name. (Under --gc-sections the reference stays
  * where the compiler knows the attribute `retain`, as gcc 11 and clang 13 do. With an older one ask sojimu_matches.) */
-uint32_t sojimu_abi_7(void);
+uint32_t sojimu_abi_6(void);
 
 #ifdef __has_attribute
 #if __has_attribute(retain)
@@ -356,7 +350,7 @@ uint32_t sojimu_abi_7(void);
 #ifndef SOJIMU_KEPT
 #define SOJIMU_KEPT __attribute__((used))
 #endif
-static uint32_t (*const sojimu_archive_must_be_of_version_7)(void) SOJIMU_KEPT = sojimu_abi_7;
+static uint32_t (*const sojimu_archive_must_be_of_version_6)(void) SOJIMU_KEPT = sojimu_abi_6;
 #undef SOJIMU_KEPT
 
 /* SOJIMU_VERSION of the header that belongs to the archive. */
@@ -425,10 +419,9 @@ static inline struct sojimu_head sojimu_front(const uint8_t *bytes, size_t lengt
     return sojimu_raw_front(sojimu_lent(bytes, length), length);
 }
 
-/* Whether the front shows that nothing which follows makes a message of these bytes: nine or more are there, without a legal label
- * and a count of at most 4; or 13 gets a yes, and 14 a no. Else the answer is false, which promises nothing: below nine bytes it
- * always is, whatever they are; kinds and numbers are looked at once both arrays are whole, the texts' bytes never. From
- * SOJIMU_FRONT bytes on, bytes are broken or announce their length. */
+/* Whether nothing that follows makes a message of these bytes: nine are there without a legal label and a count of at most 4, or
+ * 14 refuses. From SOJIMU_FRONT bytes on, bytes are broken or announce their length. No more is told than that: below nine bytes the
+ * answer is false, whatever they are, and the texts' bytes are never looked at. */
 static inline bool sojimu_broken(const uint8_t *bytes, size_t length)
 {
     return sojimu_raw_broken(sojimu_lent(bytes, length), length);
@@ -446,7 +439,7 @@ static inline bool sojimu_has_label(const uint8_t *bytes, size_t length, uint64_
     return sojimu_raw_has_label(sojimu_lent(bytes, length), length, label);
 }
 
-/* Makes the message of a branch: every number low, or the one in field `named` high (SOJIMU_NO_FIELD: none), texts filled with
+/* Makes the message of a branch: every number low, or the one in field `named` high (SOJIMU_ALL_LOW: none), texts filled with
  * 0x20. It opens `out`, the rest of which is unchanged. Asks 9, 18, 16. */
 static inline struct sojimu_made sojimu_make(const struct sojimu_table *table, uint32_t branch, uint32_t named, uint8_t *out,
                                              size_t room)
@@ -593,7 +586,7 @@ struct sojimu_started sojimu_fresh(const struct sojimu_table *table, uint32_t se
 /* Whose turn it is, under either edition. Asks 9, 10, 11. */
 static inline struct sojimu_turn sojimu_turn(const struct sojimu_table *table, const struct sojimu_state *state)
 {
-    return sojimu_raw_turn(table, sojimu_state_bytes(state), sojimu_counts(state));
+    return sojimu_raw_turn(table, sojimu_place(state), sojimu_counts(state));
 }
 
 /* One step. `side` says who sends the message; any number but SOJIMU_DEVICE and SOJIMU_HOST is no side's, and 12 refuses it under
@@ -606,7 +599,7 @@ static inline struct sojimu_turn sojimu_turn(const struct sojimu_table *table, c
 static inline struct sojimu_verdict sojimu_step(const struct sojimu_table *table, struct sojimu_state *state, uint32_t side,
                                                 const uint8_t *message, size_t length, uint8_t *out, size_t room)
 {
-    return sojimu_raw_step(table, sojimu_state_bytes(state), sojimu_counts(state), side, sojimu_lent(message, length), length,
+    return sojimu_raw_step(table, sojimu_place(state), sojimu_counts(state), side, sojimu_lent(message, length), length,
                            sojimu_lent(out, room), room);
 }
 
@@ -622,19 +615,19 @@ static inline struct sojimu_batch sojimu_batch(const struct sojimu_table *table,
                                                size_t device_length, const uint8_t *host, size_t host_length,
                                                uint8_t *to_device, size_t device_room, uint8_t *to_host, size_t host_room)
 {
-    return sojimu_raw_batch(table, sojimu_state_bytes(state), sojimu_counts(state), sojimu_lent(device, device_length),
-                            device_length, sojimu_lent(host, host_length), host_length, sojimu_lent(to_device, device_room),
-                            device_room, sojimu_lent(to_host, host_room), host_room);
+    return sojimu_raw_batch(table, sojimu_place(state), sojimu_counts(state), sojimu_lent(device, device_length), device_length,
+                            sojimu_lent(host, host_length), host_length, sojimu_lent(to_device, device_room), device_room,
+                            sojimu_lent(to_host, host_room), host_room);
 }
 
 /* The due message, from the bytes that wait on either side: the first message of the side whose turn it is, under either edition,
- * cut by its length: 22 is not asked. Length 0 when 13 or 14 would refuse or the message is not all there; side 0 and length 0
- * when 9, 10 or 11 would, of which sojimu_turn tells the number. */
+ * cut by its length: 22 is not asked. Length 0 when 13 or 14 would refuse or the message is not all there; side SOJIMU_DEVICE and
+ * length 0 when 9, 10 or 11 would, of which sojimu_turn tells the number. */
 static inline struct sojimu_due sojimu_due(const struct sojimu_table *table, const struct sojimu_state *state,
                                            const uint8_t *device, size_t device_length, const uint8_t *host, size_t host_length)
 {
-    return sojimu_raw_due(table, sojimu_state_bytes(state), sojimu_counts(state), sojimu_lent(device, device_length),
-                          device_length, sojimu_lent(host, host_length), host_length);
+    return sojimu_raw_due(table, sojimu_place(state), sojimu_counts(state), sojimu_lent(device, device_length), device_length,
+                          sojimu_lent(host, host_length), host_length);
 }
 
 /* What a tender is shown of a branch, by its number in the table: whether it is picked far too often or too seldom for its share,
@@ -644,7 +637,7 @@ static inline struct sojimu_due sojimu_due(const struct sojimu_table *table, con
 static inline struct sojimu_warning sojimu_warning(const struct sojimu_table *table, const struct sojimu_state *state,
                                                    uint32_t branch)
 {
-    return sojimu_raw_warning(table, sojimu_state_bytes(state), sojimu_counts(state), branch);
+    return sojimu_raw_warning(table, sojimu_place(state), sojimu_counts(state), branch);
 }
 
 /* Whether a described device fits a protocol: no list of moves ends with the device blamed or the two stuck. Asks 9 of the

@@ -36,7 +36,7 @@ struct sojimu_waiting {
  * unless the outcome of `ended` is SOJIMU_GOES_ON: by SOJIMU_FINISHED; by SOJIMU_BLAMED, with party, reason and field as in a
  * step's verdict; or by SOJIMU_REFUSED. Then `question` is 13, 14 or 22, and what waits on the side of `party`, whose turn it
  * is, begins with no message and never will, for which nobody is blamed; or it is 9 or 10, where the table or the state is
- * damaged, and `party` is 0. */
+ * damaged. What does not apply is 0, as in a verdict. */
 struct sojimu_conversation {
     const struct sojimu_table *protocol;
     struct sojimu_state state;
@@ -67,7 +67,7 @@ static inline struct sojimu_verdict sojimu_told(uint32_t outcome, uint32_t quest
     told.question = question & 255;
     told.party = party & 255;
     told.reason = 0;
-    told.field = SOJIMU_NO_FIELD;
+    told.field = 0;
     return told;
 }
 
@@ -255,7 +255,7 @@ static inline struct sojimu_passed sojimu_pass(struct sojimu_conversation *talk,
 }
 
 /* The same, message by message, with an entry in `log` for each message that is judged, a blamed one too: a byte for its side,
- * 0 device and 1 host (not the codes of the sides), and the message. These bytes, one call's behind the other's, are a log that
+ * 0 device and 1 host, and the message. These bytes, one call's behind the other's, are a log that
  * `sojimu replay` reads. A message whose entry the log does not hold waits. Bytes, states and ends are those of sojimu_pass. */
 static inline struct sojimu_passed sojimu_pass_logged(struct sojimu_conversation *talk, uint8_t *to_device, size_t device_room,
                                                       uint8_t *to_host, size_t host_room, uint8_t *log, size_t log_room)

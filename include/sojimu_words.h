@@ -56,7 +56,7 @@ static inline const char *sojimu_reason_words(uint32_t reason)
     }
 }
 
-/* A side's or a party's name; "" of nobody. */
+/* A side's or a party's name; "" of a number that is no side's. */
 static inline const char *sojimu_party_words(uint32_t party)
 {
     switch (party) {
@@ -93,7 +93,7 @@ static inline uint64_t sojimu_branch_label(const struct sojimu_table *table, uin
 /* ---- places */
 
 /* A place in a text: its line, and the byte in it, both from 1. */
-struct sojimu_place {
+struct sojimu_text_place {
     size_t line, column;
 };
 
@@ -105,9 +105,9 @@ struct sojimu_place {
 
 /* The place of byte `at` of a text, as sojimu_read tells it. A line ends with 0x0A, which still belongs to it. `at` may be the
  * text's length; what lies beyond has that place, too. */
-static inline struct sojimu_place sojimu_place(const uint8_t *text, size_t length, size_t at)
+static inline struct sojimu_text_place sojimu_text_place(const uint8_t *text, size_t length, size_t at)
 {
-    struct sojimu_place place = {1, 1};
+    struct sojimu_text_place place = {1, 1};
     size_t i;
     for (i = 0; i < length && i < at; i++) {
         place.column++;

@@ -12,8 +12,10 @@ use std::time::SystemTime;
 const ARCHIVE: &str = "libsojimu.a";
 /// Where the archive is, seen from this package: in a release, in the repository, and where both are installed.
 const BESIDE: [&str; 3] = ["../../lib", "../../target/staticlib", "../../../../lib"];
-/// The sources of the proved code. Only the repository has the first.
+/// The list of the proved crates, which only the repository has, and their folders.
 const SOURCES: [&str; 2] = ["../../crates.txt", "../../crates"];
+/// A crate's folders of sources. What is made of them stands beside.
+const FOLDERS: [&str; 3] = ["src", "specs", "proofs"];
 /// With its version behind it this is a symbol of the archive.
 const SYMBOL: &[u8] = b"sojimu_abi_";
 
@@ -49,7 +51,7 @@ fn beside(package: &Path) -> Result<PathBuf, String> {
     let tried: String = places.iter().map(|place| format!("    {}\n", place.display())).collect();
     places.into_iter().find(|place| place.is_file()).ok_or(format!(
         "{ARCHIVE} is in none of the places where it is looked for:\n{tried}\
-        Name its folder in SOJIMU_LIB_DIR, in full or relative to {}. In the repository, `rt staticlib sojimu` makes it.",
+        Name its folder in SOJIMU_LIB_DIR, in full or relative to {}. In the repository, `tools/archive` makes it.",
         package.display()
     ))
 }
@@ -61,7 +63,7 @@ fn link(package: &Path, archive: &Path) -> Result<(), String> {
     let bytes = fs::read(&archive).map_err(|error| format!("{}: {error}", archive.display()))?;
     let (has, needed) = (versions(&bytes), env::var("CARGO_PKG_VERSION_MAJOR").unwrap_or_default());
     if !has.contains(&needed) {
-        let has = has.first().map_or("has no version, as those before 7".to_string(), |has| format!("has version {has}"));
+        let has = has.first().map_or("names no version".to_string(), |has| format!("has version {has}"));
         return Err(format!("{} {has}; this package needs version {needed}", archive.display()));
     }
     if let Some(folder) = archive.parent() {
@@ -83,15 +85,17 @@ fn versions(bytes: &[u8]) -> Vec<String> {
 
 /// In the repository: says that a source was changed after the archive was made.
 fn warn_where_older(package: &Path, archive: &Path) {
-    let sources = SOURCES.map(|source| package.join(source));
+    let [list, crates] = SOURCES.map(|source| package.join(source));
     let made = fs::metadata(archive).and_then(|about| about.modified());
-    let Some(made) = made.ok().filter(|_| sources.iter().all(|source| source.exists())) else { return };
+    let (Ok(made), Ok(folders), true) = (made, fs::read_dir(crates), list.exists()) else { return };
+    let parts = folders.flatten().flat_map(|folder| FOLDERS.map(|part| folder.path().join(part)));
+    let sources: Vec<PathBuf> = [list].into_iter().chain(parts.filter(|part| part.exists())).collect();
     for source in &sources {
         println!("cargo::rerun-if-changed={}", source.display());
     }
     if let Some(newer) = sources.iter().find_map(|source| newer(source, made)) {
         let (archive, newer) = (archive.display(), newer.display());
-        println!("cargo::warning={archive} is older than {newer}: `rt staticlib sojimu` makes it anew");
+        println!("cargo::warning={archive} is older than {newer}: `tools/archive` makes it anew");
     }
 }
 

@@ -63,9 +63,8 @@ static bool gives(struct sojimu_state s, const size_t counts[4], const uint8_t l
 #define COUNTS(...) ((const size_t[4]){__VA_ARGS__})
 #define LAST(...) ((const uint8_t[5]){__VA_ARGS__})
 
-static const uint8_t NONE_DUE[5] = {SOJIMU_NONE_DUE, 0, NOBODY, 0, SOJIMU_NO_FIELD};
-static const uint8_t FORWARDED[5] = {SOJIMU_FORWARDED, 0, NOBODY, 0, SOJIMU_NO_FIELD};
-static const uint8_t FULL[5] = {SOJIMU_REFUSED, 16, NOBODY, 0, SOJIMU_NO_FIELD};
+static const uint8_t NONE_DUE[5] = {SOJIMU_NONE_DUE, 0, 0, 0, 0}, FORWARDED[5] = {SOJIMU_FORWARDED, 0, 0, 0, 0};
+static const uint8_t FULL[5] = {SOJIMU_REFUSED, 16, 0, 0, 0};
 
 static const struct sojimu_state START = STATE(0, SOJIMU_RUNNING), ENDED = STATE(2, SOJIMU_RUNNING);
 
@@ -113,11 +112,10 @@ static void blamed(void)
     ask(7);
     say(&host, "No");
     say(&host, "Ok");
-    CHECK(gives(START, COUNTS(14, 14, 9, 0), LAST(SOJIMU_BLAMED, 0, SOJIMU_HOST, SOJIMU_NO_LABEL, SOJIMU_NO_FIELD), 1,
-                SOJIMU_HOST_BLAMED));
+    CHECK(gives(START, COUNTS(14, 14, 9, 0), LAST(SOJIMU_BLAMED, 0, SOJIMU_HOST, SOJIMU_NO_LABEL, 0), 1, SOJIMU_HOST_BLAMED));
     quiet();
     device.length = with_number(device.waiting, "Quit", SOJIMU_KIND_FLAG, 1);
-    CHECK(gives(START, COUNTS(14, 0, 0, 0), LAST(SOJIMU_BLAMED, 0, SOJIMU_DEVICE, SOJIMU_OTHER_KINDS, SOJIMU_NO_FIELD), 0,
+    CHECK(gives(START, COUNTS(14, 0, 0, 0), LAST(SOJIMU_BLAMED, 0, SOJIMU_DEVICE, SOJIMU_OTHER_KINDS, 0), 0,
                 SOJIMU_DEVICE_BLAMED));
     device.room = host.room = 0;
     CHECK(gives(START, COUNTS(0, 0, 0, 0), FULL, 0, SOJIMU_RUNNING));
@@ -160,8 +158,7 @@ static void refused(void)
             const struct sojimu_state s = STATE((uint8_t)position, (uint8_t)standing);
             const uint8_t question = position > 2 ? 9 : 10;
             if (position > 2 || standing != SOJIMU_RUNNING) {
-                const uint8_t last[5] = {SOJIMU_REFUSED, question, NOBODY, 0, SOJIMU_NO_FIELD};
-                CHECK(gives(s, COUNTS(0, 0, 0, 0), last, s.position, s.standing));
+                CHECK(gives(s, COUNTS(0, 0, 0, 0), LAST(SOJIMU_REFUSED, question, 0, 0, 0), s.position, s.standing));
             }
         }
     }
@@ -170,7 +167,7 @@ static void refused(void)
 /* What single calls come to, over the same bytes. */
 static struct sojimu_batch singly(struct sojimu_state *s, uint8_t *to_device, uint8_t *to_host)
 {
-    struct sojimu_batch b = {0, 0, 0, 0, {SOJIMU_NONE_DUE, 0, NOBODY, 0, SOJIMU_NO_FIELD}, {0, 0, 0}};
+    struct sojimu_batch b = {0, 0, 0, 0, {SOJIMU_NONE_DUE, 0, 0, 0, 0}, {0, 0, 0}};
     do {
         const struct sojimu_due due = sojimu_due(&p, s, device.waiting + b.used_device, device.length - b.used_device,
                                                  host.waiting + b.used_host, host.length - b.used_host);

@@ -124,7 +124,7 @@ static void making(void)
     CHECK(made.question == 0 && made.length == sizeof ASK_100 && opens(ASK_100, sizeof ASK_100));
 
     mark();
-    made = sojimu_make(&q, 0, SOJIMU_NO_FIELD, out, 19);
+    made = sojimu_make(&q, 0, SOJIMU_ALL_LOW, out, 19);
     plain(say, "Say");
     memcpy(say + 8, "\2\1\0", 3);
     put_number(say + 11, 0);
@@ -138,9 +138,9 @@ static void making(void)
 
     mark();
     CHECK(unmade(sojimu_make(&q, 0, 0, out, 21), 16));
-    CHECK(unmade(sojimu_make(&p, 0, SOJIMU_NO_FIELD, NULL, 0), 16));
-    CHECK(unmade(sojimu_make(&p, 3, SOJIMU_NO_FIELD, out, ROOM), 18));
-    CHECK(unmade(sojimu_make(&p, 256, SOJIMU_NO_FIELD, out, ROOM), 18));
+    CHECK(unmade(sojimu_make(&p, 0, SOJIMU_ALL_LOW, NULL, 0), 16));
+    CHECK(unmade(sojimu_make(&p, 3, SOJIMU_ALL_LOW, out, ROOM), 18));
+    CHECK(unmade(sojimu_make(&p, 256, SOJIMU_ALL_LOW, out, ROOM), 18));
     CHECK(unmade(sojimu_make(&p, 0, 1, out, ROOM), 18));
     CHECK(unmade(sojimu_make(&p, 0, 254, out, ROOM), 18));
     p.states = 0;
@@ -165,11 +165,11 @@ static bool steps_to(const struct sojimu_table *t, struct sojimu_state *s, uint3
 static bool refuses(const struct sojimu_table *t, struct sojimu_state s, uint32_t side, const uint8_t *message, size_t n,
                     size_t room, uint8_t question)
 {
-    const uint8_t verdict[5] = {SOJIMU_REFUSED, question, NOBODY, 0, SOJIMU_NO_FIELD};
+    const uint8_t verdict[5] = {SOJIMU_REFUSED, question, 0, 0, 0};
     return steps_to(t, &s, side, message, n, room, verdict, s.position, s.standing);
 }
 
-static const uint8_t FORWARD[5] = {SOJIMU_FORWARDED, 0, NOBODY, 0, SOJIMU_NO_FIELD};
+static const uint8_t FORWARD[5] = {SOJIMU_FORWARDED, 0, 0, 0, 0};
 
 static void examples(void)
 {
@@ -193,8 +193,8 @@ static void blames(void)
 {
     const struct sojimu_table p = table_of(P);
     const struct sojimu_table two = table_of("+{!Set(int[0..9],flag[1..1]).end}");
-    const uint8_t no_label[5] = {SOJIMU_BLAMED, 0, SOJIMU_HOST, SOJIMU_NO_LABEL, SOJIMU_NO_FIELD};
-    const uint8_t kinds[5] = {SOJIMU_BLAMED, 0, SOJIMU_DEVICE, SOJIMU_OTHER_KINDS, SOJIMU_NO_FIELD};
+    const uint8_t no_label[5] = {SOJIMU_BLAMED, 0, SOJIMU_HOST, SOJIMU_NO_LABEL, 0};
+    const uint8_t kinds[5] = {SOJIMU_BLAMED, 0, SOJIMU_DEVICE, SOJIMU_OTHER_KINDS, 0};
     const uint8_t second[5] = {SOJIMU_BLAMED, 0, SOJIMU_DEVICE, SOJIMU_OUT_OF_RANGE, 1};
     uint8_t m[32];
     struct sojimu_state s = STATE(1, SOJIMU_RUNNING);
@@ -226,10 +226,10 @@ static void refusals(void)
     memcpy(m, ASK_100, n);
 
     CHECK(refuses(&p, beyond, SOJIMU_DEVICE, m, n, ROOM, 9));
-    CHECK(refuses(&p, beyond, NO_SIDE, m, n, ROOM, 9));
+    CHECK(refuses(&p, beyond, 7, m, n, ROOM, 9));
     CHECK(refuses(&p, unknown, SOJIMU_DEVICE, m, n, ROOM, 10));
     CHECK(refuses(&p, largest, SOJIMU_HOST, m, n, ROOM, 10));
-    CHECK(refuses(&p, unknown, NO_SIDE, m, n, ROOM, 10));
+    CHECK(refuses(&p, unknown, 2, m, n, ROOM, 10));
     for (unsigned standing = 0; standing < 256; standing++) {
         const struct sojimu_state other = STATE(0, (uint8_t)standing);
         CHECK(standing == SOJIMU_RUNNING || refuses(&p, other, SOJIMU_DEVICE, m, n, ROOM, 10));
@@ -239,10 +239,10 @@ static void refusals(void)
     CHECK(refuses(&p, ended, SOJIMU_HOST, m, n, ROOM, 11));
     CHECK(refuses(&p, ended, 255, m, n, ROOM, 11));
     CHECK(refuses(&p, start, SOJIMU_HOST, m, n, ROOM, 12));
-    for (uint32_t side = 0; side < 300; side++) {
+    for (uint32_t side = 2; side < 300; side++) {
         const struct sojimu_state receiving = STATE(1, SOJIMU_RUNNING);
-        CHECK(side == SOJIMU_DEVICE || refuses(&p, start, side, m, n, ROOM, 12));
-        CHECK(side == SOJIMU_HOST || refuses(&p, receiving, side, m, n, ROOM, 12));
+        CHECK(refuses(&p, start, side, m, n, ROOM, 12));
+        CHECK(refuses(&p, receiving, side, m, n, ROOM, 12));
     }
     CHECK(refuses(&p, start, SOJIMU_HOST, NULL, 0, 0, 12));
     CHECK(refuses(&p, start, SOJIMU_DEVICE, NULL, 0, 0, 13));
@@ -253,7 +253,7 @@ static void refusals(void)
     m[9] = 3;
     CHECK(refuses(&p, start, SOJIMU_DEVICE, m, n, 0, 14));
     p.sort[1] = 3;
-    CHECK(refuses(&p, unknown, NO_SIDE, NULL, 0, 0, 9));
+    CHECK(refuses(&p, unknown, 2, NULL, 0, 0, 9));
 }
 
 static bool turn_is(struct sojimu_turn t, uint32_t question, uint32_t side)
@@ -276,7 +276,7 @@ static void conversation(void)
         CHECK(steps_to(&p, &s, SOJIMU_HOST, ok, sizeof ok, ROOM, FORWARD, 0, SOJIMU_RUNNING));
     }
     CHECK(steps_to(&p, &s, SOJIMU_DEVICE, quit, sizeof quit, ROOM, FORWARD, 2, SOJIMU_RUNNING));
-    CHECK(turn_is(sojimu_turn(&p, &s), 11, NOBODY));
+    CHECK(turn_is(sojimu_turn(&p, &s), 11, 0));
     CHECK(refuses(&p, s, SOJIMU_DEVICE, quit, sizeof quit, ROOM, 11));
 }
 
@@ -303,17 +303,17 @@ static void due(void)
     CHECK(due_is(sojimu_due(&p, &receives, device, n, host, 8), SOJIMU_HOST, 0));
     CHECK(due_is(sojimu_due(&p, &sends, NULL, 0, NULL, 0), SOJIMU_DEVICE, 0));
     CHECK(due_is(sojimu_due(&p, &receives, NULL, 0, NULL, 0), SOJIMU_HOST, 0));
-    CHECK(due_is(sojimu_due(&p, &ended, device, n, host, 9), NOBODY, 0));
-    CHECK(due_is(sojimu_due(&p, &blamed, device, n, host, 9), NOBODY, 0));
-    CHECK(due_is(sojimu_due(&p, &unknown, device, n, host, 9), NOBODY, 0));
-    CHECK(due_is(sojimu_due(&p, &beyond, device, n, host, 9), NOBODY, 0));
-    CHECK(turn_is(sojimu_turn(&p, &beyond), 9, NOBODY) && turn_is(sojimu_turn(&p, &ended), 11, NOBODY));
-    CHECK(turn_is(sojimu_turn(&p, &blamed), 10, NOBODY) && turn_is(sojimu_turn(&p, &unknown), 10, NOBODY));
+    CHECK(due_is(sojimu_due(&p, &ended, device, n, host, 9), SOJIMU_DEVICE, 0));
+    CHECK(due_is(sojimu_due(&p, &blamed, device, n, host, 9), SOJIMU_DEVICE, 0));
+    CHECK(due_is(sojimu_due(&p, &unknown, device, n, host, 9), SOJIMU_DEVICE, 0));
+    CHECK(due_is(sojimu_due(&p, &beyond, device, n, host, 9), SOJIMU_DEVICE, 0));
+    CHECK(turn_is(sojimu_turn(&p, &beyond), 9, 0) && turn_is(sojimu_turn(&p, &ended), 11, 0));
+    CHECK(turn_is(sojimu_turn(&p, &blamed), 10, 0) && turn_is(sojimu_turn(&p, &unknown), 10, 0));
     device[9] = 3;
     CHECK(due_is(sojimu_due(&p, &sends, device, n, host, 9), SOJIMU_DEVICE, 0));
     p.states = 33;
-    CHECK(turn_is(sojimu_turn(&p, &ended), 9, NOBODY) && turn_is(sojimu_turn(&p, &blamed), 9, NOBODY));
-    CHECK(due_is(sojimu_due(&p, &receives, device, n, host, 9), NOBODY, 0));
+    CHECK(turn_is(sojimu_turn(&p, &ended), 9, 0) && turn_is(sojimu_turn(&p, &blamed), 9, 0));
+    CHECK(due_is(sojimu_due(&p, &receives, device, n, host, 9), SOJIMU_DEVICE, 0));
 }
 
 /* ---- the fit check */
@@ -327,11 +327,11 @@ static bool fit_is(struct sojimu_fit f, uint32_t outcome, uint32_t question, uin
 static struct sojimu_verdict play(const struct sojimu_table *device, const struct sojimu_table *protocol, struct sojimu_fit f)
 {
     struct sojimu_state s = fresh(protocol);
-    struct sojimu_verdict v = {SOJIMU_FORWARDED, 0, NOBODY, 0, SOJIMU_NO_FIELD};
+    struct sojimu_verdict v = {SOJIMU_FORWARDED, 0, 0, 0, 0};
     uint8_t m[SOJIMU_MESSAGE];
     for (uint32_t i = 0; i < f.count; i++) {
         const uint32_t side = sojimu_turn(protocol, &s).side;
-        const uint32_t named = i + 1 == f.count ? f.high : SOJIMU_NO_FIELD;
+        const uint32_t named = i + 1 == f.count ? f.high : SOJIMU_ALL_LOW;
         const struct sojimu_made made = sojimu_make(side == SOJIMU_DEVICE ? device : protocol, list[i], named, m, sizeof m);
         CHECK(v.outcome == SOJIMU_FORWARDED && made.question == 0);
         v = sojimu_step(protocol, &s, side, m, made.length, out, ROOM);
@@ -345,12 +345,12 @@ static void fits(void)
     const struct sojimu_table q = table_of("rec X.+{!Ping().&{?Pong().X},!Quit().end}");
     const struct sojimu_table quit = table_of("+{!Quit().end}");
     mark_list();
-    CHECK(fit_is(sojimu_fit(&p, &p, list, SOJIMU_LIST), SOJIMU_FITS, 0, 3, SOJIMU_NO_FIELD) && marked_from(0));
-    CHECK(fit_is(sojimu_fit(&quit, &q, list, 6), SOJIMU_FITS, 0, 2, SOJIMU_NO_FIELD) && marked_from(0));
-    CHECK(fit_is(sojimu_fit(&quit, &q, list, 5), SOJIMU_REFUSED, 17, 0, SOJIMU_NO_FIELD) && marked_from(0));
-    CHECK(fit_is(sojimu_fit(&quit, &q, NULL, 0), SOJIMU_REFUSED, 17, 0, SOJIMU_NO_FIELD));
-    CHECK(fit_is(sojimu_fit(&empty, &q, list, SOJIMU_LIST), SOJIMU_REFUSED, 9, 0, SOJIMU_NO_FIELD) && marked_from(0));
-    CHECK(fit_is(sojimu_fit(&q, &empty, list, SOJIMU_LIST), SOJIMU_REFUSED, 9, 0, SOJIMU_NO_FIELD) && marked_from(0));
+    CHECK(fit_is(sojimu_fit(&p, &p, list, SOJIMU_LIST), SOJIMU_FITS, 0, 3, SOJIMU_ALL_LOW) && marked_from(0));
+    CHECK(fit_is(sojimu_fit(&quit, &q, list, 6), SOJIMU_FITS, 0, 2, SOJIMU_ALL_LOW) && marked_from(0));
+    CHECK(fit_is(sojimu_fit(&quit, &q, list, 5), SOJIMU_FIT_REFUSED, 17, 0, SOJIMU_ALL_LOW) && marked_from(0));
+    CHECK(fit_is(sojimu_fit(&quit, &q, NULL, 0), SOJIMU_FIT_REFUSED, 17, 0, SOJIMU_ALL_LOW));
+    CHECK(fit_is(sojimu_fit(&empty, &q, list, SOJIMU_LIST), SOJIMU_FIT_REFUSED, 9, 0, SOJIMU_ALL_LOW) && marked_from(0));
+    CHECK(fit_is(sojimu_fit(&q, &empty, list, SOJIMU_LIST), SOJIMU_FIT_REFUSED, 9, 0, SOJIMU_ALL_LOW) && marked_from(0));
 }
 
 static void failures(void)
@@ -362,10 +362,10 @@ static void failures(void)
     const struct sojimu_table wide = table_of("+{!Ask(int[0..101]).&{?Ok().end}}");
     mark_list();
     struct sojimu_fit f = sojimu_fit(&end, &p, list, SOJIMU_LIST);
-    CHECK(fit_is(f, SOJIMU_FAILS, 0, 0, SOJIMU_NO_FIELD) && marked_from(0));
+    CHECK(fit_is(f, SOJIMU_FAILS, 0, 0, SOJIMU_ALL_LOW) && marked_from(0));
 
     f = sojimu_fit(&busy, &q, list, SOJIMU_LIST);
-    CHECK(fit_is(f, SOJIMU_FAILS, 0, 2, SOJIMU_NO_FIELD) && list[0] == 0 && list[1] == 1 && marked_from(2));
+    CHECK(fit_is(f, SOJIMU_FAILS, 0, 2, SOJIMU_ALL_LOW) && list[0] == 0 && list[1] == 1 && marked_from(2));
     CHECK(play(&busy, &q, f).outcome == SOJIMU_FORWARDED);
 
     mark_list();
@@ -380,9 +380,9 @@ static void two_moves(const char *device, const char *protocol, uint16_t first, 
 {
     const struct sojimu_table d = table_of(device), p = table_of(protocol);
     mark_list();
-    CHECK(fit_is(sojimu_fit(&d, &p, list, SOJIMU_LIST), SOJIMU_FAILS, 0, 2, SOJIMU_NO_FIELD));
+    CHECK(fit_is(sojimu_fit(&d, &p, list, SOJIMU_LIST), SOJIMU_FAILS, 0, 2, SOJIMU_ALL_LOW));
     CHECK(list[0] == first && list[1] == second && marked_from(2));
-    CHECK(fit_is(sojimu_fit(&d, &p, list, d.states * p.states), SOJIMU_FAILS, 0, 2, SOJIMU_NO_FIELD));
+    CHECK(fit_is(sojimu_fit(&d, &p, list, d.states * p.states), SOJIMU_FAILS, 0, 2, SOJIMU_ALL_LOW));
     CHECK(list[0] == first && list[1] == second && marked_from(2));
 }
 

@@ -106,10 +106,7 @@ static inline size_t largest_text(char *text)
     return n + (size_t)sprintf(text + n, "}");
 }
 
-/* ---- sides and states */
-
-/* No side's: nobody, which answers have where there is none, and another number. */
-enum { NOBODY = 0, NO_SIDE = 3 };
+/* ---- states */
 
 /* The setting of the tests, in hundredths, and a state with nothing counted. */
 enum { SETTING = 200 };

@@ -357,7 +357,7 @@ static struct script script;
 
 static struct sojimu_verdict ended(uint8_t outcome, uint8_t question, uint8_t party)
 {
-    const struct sojimu_verdict verdict = {outcome, question, party, 0, SOJIMU_NO_FIELD};
+    const struct sojimu_verdict verdict = {outcome, question, party, 0, 0};
     return verdict;
 }
 
@@ -539,7 +539,7 @@ static void editions(void)
     under("examples/editions/protocol.txt");
     script.log = file("examples/editions/set-twice.log");
     script.judged = 3;
-    script.ended = blamed(SOJIMU_HOST, SOJIMU_EARLY, SOJIMU_NO_FIELD);
+    script.ended = blamed(SOJIMU_HOST, SOJIMU_EARLY, 0);
     cut_in_turn(1);
     under("examples/editions/protocol.txt");
     DEVICE("Status", INT(310), INT(128));
@@ -566,7 +566,7 @@ static void longest(void)
     }
     CHECK(longest_of(&script.log) == SOJIMU_MESSAGE);
     DEVICE("Yell", TEXT(text), TEXT(text), TEXT(text), TEXT(text));
-    script.ended = blamed(SOJIMU_DEVICE, SOJIMU_NO_LABEL, SOJIMU_NO_FIELD);
+    script.ended = blamed(SOJIMU_DEVICE, SOJIMU_NO_LABEL, 0);
     cut_in_turn(1);
     cut_both(101);
     script.protocol.edition = 2;
@@ -609,8 +609,8 @@ static bool ends(const char *protocol, struct came came, struct sojimu_verdict w
 #define SAY_TEXT "Say\0\0\0\0\0\1\1\0\0\0\1"
 #define EARLY_TEXT "edition 2 rec X.+{!Ask(int[0..100]).&{?Ok().X},!Quit().end}"
 
-static const struct sojimu_verdict GOES_ON = {SOJIMU_GOES_ON, 0, 0, 0, SOJIMU_NO_FIELD};
-static const struct sojimu_verdict FINISHED = {SOJIMU_FINISHED, 0, 0, 0, SOJIMU_NO_FIELD};
+static const struct sojimu_verdict GOES_ON = {SOJIMU_GOES_ON, 0, 0, 0, 0};
+static const struct sojimu_verdict FINISHED = {SOJIMU_FINISHED, 0, 0, 0, 0};
 
 static struct sojimu_verdict no_message(uint8_t party, uint8_t question)
 {
@@ -629,13 +629,13 @@ static void finished(void)
 /* Every reason, of either party; a blamed message is logged. */
 static void blames_of_each_reason(void)
 {
-    CHECK(ends(P, CAME("No\0\0\0\0\0\0\0" ASK_7, OK), blamed(SOJIMU_DEVICE, SOJIMU_NO_LABEL, SOJIMU_NO_FIELD), 10));
-    CHECK(ends(P, CAME("Quit\0\0\0\0\1\2\0\0\0\1", ""), blamed(SOJIMU_DEVICE, SOJIMU_OTHER_KINDS, SOJIMU_NO_FIELD), 15));
+    CHECK(ends(P, CAME("No\0\0\0\0\0\0\0" ASK_7, OK), blamed(SOJIMU_DEVICE, SOJIMU_NO_LABEL, 0), 10));
+    CHECK(ends(P, CAME("Quit\0\0\0\0\1\2\0\0\0\1", ""), blamed(SOJIMU_DEVICE, SOJIMU_OTHER_KINDS, 0), 15));
     CHECK(ends(P, CAME("Ask\0\0\0\0\0\1\0\0\0\0\145", ""), blamed(SOJIMU_DEVICE, SOJIMU_OUT_OF_RANGE, 0), 15));
     CHECK(ends("+{!A(int[0..1],int[0..1]).end}", CAME("A\0\0\0\0\0\0\0\2\0\0\0\0\0\1\0\0\0\2", ""),
                blamed(SOJIMU_DEVICE, SOJIMU_OUT_OF_RANGE, 1), 20));
-    CHECK(ends(P, CAME(ASK_7, QUIT), blamed(SOJIMU_HOST, SOJIMU_NO_LABEL, SOJIMU_NO_FIELD), 25));
-    CHECK(ends(P, CAME(ASK_7, "Ok\0\0\0\0\0\0\1\0\0\0\0\0"), blamed(SOJIMU_HOST, SOJIMU_OTHER_KINDS, SOJIMU_NO_FIELD), 30));
+    CHECK(ends(P, CAME(ASK_7, QUIT), blamed(SOJIMU_HOST, SOJIMU_NO_LABEL, 0), 25));
+    CHECK(ends(P, CAME(ASK_7, "Ok\0\0\0\0\0\0\1\0\0\0\0\0"), blamed(SOJIMU_HOST, SOJIMU_OTHER_KINDS, 0), 30));
     CHECK(ends("&{?Set(flag[0..0]).end}", CAME("", "Set\0\0\0\0\0\1\2\0\0\0\1"), blamed(SOJIMU_HOST, SOJIMU_OUT_OF_RANGE, 0), 15));
 }
 
@@ -662,22 +662,22 @@ static void no_messages(void)
 /* Under edition 2 who speaks out of turn is blamed, once no message is due; what is no message waits. */
 static void early(void)
 {
-    CHECK(ends(EARLY_TEXT, CAME("", OK), blamed(SOJIMU_HOST, SOJIMU_EARLY, SOJIMU_NO_FIELD), 10));
+    CHECK(ends(EARLY_TEXT, CAME("", OK), blamed(SOJIMU_HOST, SOJIMU_EARLY, 0), 10));
     CHECK(ends(P, CAME("", OK), GOES_ON, 0));
     CHECK(ends(EARLY_TEXT, CAME(ASK_7, OK), GOES_ON, 25) && ends(EARLY_TEXT, CAME("", "Ok\0\0\0\0\0\0"), GOES_ON, 0));
-    CHECK(ends(EARLY_TEXT, CAME(ASK_7, OK OK), blamed(SOJIMU_HOST, SOJIMU_EARLY, SOJIMU_NO_FIELD), 35));
-    CHECK(ends(EARLY_TEXT, CAME(ASK_7 QUIT, ""), blamed(SOJIMU_DEVICE, SOJIMU_EARLY, SOJIMU_NO_FIELD), 25));
-    CHECK(ends(EARLY_TEXT, CAME(ASK_7 "No\0\0\0\0\0\0\0", ""), blamed(SOJIMU_DEVICE, SOJIMU_EARLY, SOJIMU_NO_FIELD), 25));
+    CHECK(ends(EARLY_TEXT, CAME(ASK_7, OK OK), blamed(SOJIMU_HOST, SOJIMU_EARLY, 0), 35));
+    CHECK(ends(EARLY_TEXT, CAME(ASK_7 QUIT, ""), blamed(SOJIMU_DEVICE, SOJIMU_EARLY, 0), 25));
+    CHECK(ends(EARLY_TEXT, CAME(ASK_7 "No\0\0\0\0\0\0\0", ""), blamed(SOJIMU_DEVICE, SOJIMU_EARLY, 0), 25));
     CHECK(ends(EARLY_TEXT, CAME("", "GET / HTTP"), GOES_ON, 0) && ends(EARLY_TEXT, CAME("", SAY_TEXT "\377"), GOES_ON, 0));
     /* The last byte of the first is still in the room where the second waits for its own. */
-    CHECK(ends(EARLY_TEXT, CAME("", SAY_TEXT "x"), blamed(SOJIMU_HOST, SOJIMU_EARLY, SOJIMU_NO_FIELD), 16));
+    CHECK(ends(EARLY_TEXT, CAME("", SAY_TEXT "x"), blamed(SOJIMU_HOST, SOJIMU_EARLY, 0), 16));
     CHECK(ends(EARLY_TEXT, CAME("", SAY_TEXT), GOES_ON, 0));
     CHECK(ends(EARLY_TEXT, CAME(ASK_7, SAY_TEXT "\377"), no_message(SOJIMU_HOST, SOJIMU_NOT_UTF8), 15));
     CHECK(ends(EARLY_TEXT, CAME(QUIT, OK), FINISHED, 10));
     /* What the side whose turn it is has sent comes first. */
     CHECK(ends(EARLY_TEXT, CAME("GET / HTTP", OK), no_message(SOJIMU_DEVICE, SOJIMU_BAD_FRONT), 0));
     CHECK(ends(EARLY_TEXT, CAME(SAY_TEXT "\377", OK), no_message(SOJIMU_DEVICE, SOJIMU_NOT_UTF8), 0));
-    CHECK(ends(EARLY_TEXT, CAME("Ask\0", OK), blamed(SOJIMU_HOST, SOJIMU_EARLY, SOJIMU_NO_FIELD), 10));
+    CHECK(ends(EARLY_TEXT, CAME("Ask\0", OK), blamed(SOJIMU_HOST, SOJIMU_EARLY, 0), 10));
 }
 
 /* A table or a state that is written over: nothing is passed on, and nobody is blamed. */
@@ -741,7 +741,7 @@ static void refused(void)
 static void heard(void)
 {
     static uint8_t device[SOJIMU_MESSAGE + 1], host[SOJIMU_MESSAGE + 9], bytes[1000];
-    static const uint32_t sides[] = {0, 3, 255, 256, 257, 258, 65537, 0x80000001, 0xFFFFFFFF};
+    static const uint32_t sides[] = {2, 3, 255, 256, 257, 258, 65536, 65537, 0x80000000, 0x80000001, 0xFFFFFFFF};
     const struct sojimu_table table = table_of(P);
     struct sojimu_conversation talk;
     device[SOJIMU_MESSAGE] = MARK;
@@ -809,7 +809,7 @@ static void early_in_short_rooms(void)
     CHECK(offer(SOJIMU_HOST) == 9 && pass(&given) && given.more && goes_on() && held.talk.host.length == 9);
     held.rooms = enough;
     CHECK(pass(&given) && !given.more && held.talk.host.length == 0);
-    CHECK(same_verdicts(held.talk.ended, blamed(SOJIMU_HOST, SOJIMU_EARLY, SOJIMU_NO_FIELD)));
+    CHECK(same_verdicts(held.talk.ended, blamed(SOJIMU_HOST, SOJIMU_EARLY, 0)));
     CHECK(held.log.length == 35 && replays(&table, &held.log) && stays());
 }
 

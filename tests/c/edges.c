@@ -69,8 +69,7 @@ static void batch_of(void *place, const struct sojimu_table *table, const uint8_
 {
     struct sojimu_state s = START;
     uint8_t to_device[1];
-    batch_into(place, table, sojimu_state_bytes(&s), sojimu_counts(&s), message, length, message, length, to_device, 0, out,
-               room);
+    batch_into(place, table, sojimu_place(&s), sojimu_counts(&s), message, length, message, length, to_device, 0, out, room);
 }
 
 static void give_fresh(void *place)
@@ -188,7 +187,7 @@ static void nothing(void)
     CHECK(sojimu_front(NULL, 0).question == 13 && sojimu_front(NULL, 0).length == 0);
     CHECK(!sojimu_broken(NULL, 0) && sojimu_refusal(NULL, 0) == 13);
     CHECK(!sojimu_has_label(NULL, 0, 0));
-    CHECK(sojimu_make(&p, 0, SOJIMU_NO_FIELD, NULL, 0).question == 16);
+    CHECK(sojimu_make(&p, 0, SOJIMU_ALL_LOW, NULL, 0).question == 16);
     CHECK(sojimu_step(&p, &s, SOJIMU_DEVICE, NULL, 0, NULL, 0).question == 13);
     CHECK(sojimu_step(&p, &s, SOJIMU_DEVICE, NULL, 0, out, ROOM).question == 13);
     CHECK(sojimu_step(&p, &s, SOJIMU_DEVICE, ASK_100, sizeof ASK_100, NULL, 0).question == 16);
@@ -223,7 +222,7 @@ static void wide_numbers(void)
     mark();
     for (size_t i = 0; i < WIDES; i++) {
         const uint32_t n = WIDE[i];
-        CHECK(unmade(sojimu_make(&p, n, SOJIMU_NO_FIELD, out, ROOM), 18));
+        CHECK(unmade(sojimu_make(&p, n, SOJIMU_ALL_LOW, out, ROOM), 18));
         CHECK(unmade(sojimu_make(&p, n, n, out, ROOM), 18));
         CHECK(unmade(sojimu_make(&p, 0, n, out, ROOM), 18));
         CHECK(unmade(sojimu_make(&p, 0, n, NULL, 0), 18));
@@ -236,7 +235,7 @@ static void wide_numbers(void)
         CHECK(!sojimu_range_legal(n, SOJIMU_ORIGIN, SOJIMU_ORIGIN));
     }
     for (uint32_t field = 1; field < 600; field++) {
-        CHECK(field == SOJIMU_NO_FIELD || unmade(sojimu_make(&p, 0, field, out, ROOM), 18));
+        CHECK(field == SOJIMU_ALL_LOW || unmade(sojimu_make(&p, 0, field, out, ROOM), 18));
     }
 }
 
@@ -259,14 +258,13 @@ static bool all_nine(const struct sojimu_table *t)
     const struct sojimu_due due = sojimu_due(t, &s, ASK_100, sizeof ASK_100, ASK_100, sizeof ASK_100);
     const struct sojimu_fit f = sojimu_fit(t, &p, list, SOJIMU_LIST), g = sojimu_fit(&p, t, list, SOJIMU_LIST);
     return !sojimu_sound(t) && !sojimu_sound_at(t, 0) && d.question == 9 && same_tables(&d.table, &empty) &&
-           sojimu_fresh(t, SETTING).question == 9 && w.question == 9 && w.warns == 0 && w.sender == NOBODY &&
-           w.estimate == SOJIMU_NO_ESTIMATE &&
+           sojimu_fresh(t, SETTING).question == 9 && w.question == 9 && w.warns == 0 && w.estimate == SOJIMU_NO_ESTIMATE &&
            v.outcome == SOJIMU_REFUSED && v.question == 9 && same_states(&s, &START) &&
            b.last.outcome == SOJIMU_REFUSED && b.last.question == 9 && b.used_device == 0 && b.used_host == 0 &&
            b.written_to_device == 0 && b.written_to_host == 0 && memcmp(other_out, unwritten, ROOM) == 0 &&
-           turn.question == 9 && turn.side == NOBODY && due.side == NOBODY && due.length == 0 &&
-           f.outcome == SOJIMU_REFUSED && f.question == 9 && g.outcome == SOJIMU_REFUSED && g.question == 9 &&
-           unmade(sojimu_make(t, 0, SOJIMU_NO_FIELD, out, ROOM), 9) && marked_from(0);
+           turn.question == 9 && turn.side == 0 && due.side == SOJIMU_DEVICE && due.length == 0 &&
+           f.outcome == SOJIMU_FIT_REFUSED && f.question == 9 && g.outcome == SOJIMU_FIT_REFUSED && g.question == 9 &&
+           unmade(sojimu_make(t, 0, SOJIMU_ALL_LOW, out, ROOM), 9) && marked_from(0);
 }
 
 /* The table with one word changed is refused by 9 everywhere. */
@@ -430,7 +428,7 @@ static void encoder(void)
 
     /* as messages are made from a branch: low, and each field high */
     for (uint32_t named = 0; named < 5; named++) {
-        const uint32_t high = named == 4 ? SOJIMU_NO_FIELD : named;
+        const uint32_t high = named == 4 ? SOJIMU_ALL_LOW : named;
         const struct sojimu_made m = sojimu_make(&t, 0, high, made, sizeof made);
         fields[0] = sojimu_int(high == 0 ? 7 : -7);
         fields[1] = sojimu_text(blank, high == 1 ? 64 : 3);
@@ -480,7 +478,8 @@ static void encoder(void)
 int main(void)
 {
     p = table_of(P);
-    CHECK(SOJIMU_VERSION == 7 && sojimu_version() == 7 && sojimu_abi_7() == 7 && sojimu_matches());
+    CHECK(sojimu_version() == 6 && SOJIMU_VERSION == 6 && sojimu_matches());
+    CHECK(sojimu_abi_6() == 6);
     bytes_determined();
     nothing();
     wide_numbers();

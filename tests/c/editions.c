@@ -83,14 +83,14 @@ static bool stays(const struct sojimu_table *t, struct sojimu_state s, uint32_t 
 static bool refuses(const struct sojimu_table *t, struct sojimu_state s, uint32_t side, const uint8_t *message, size_t n,
                     size_t room, uint8_t question)
 {
-    const uint8_t verdict[5] = {SOJIMU_REFUSED, question, NOBODY, 0, SOJIMU_NO_FIELD};
+    const uint8_t verdict[5] = {SOJIMU_REFUSED, question, 0, 0, 0};
     return stays(t, s, side, message, n, room, verdict, s.standing);
 }
 
 /* Under edition 2 the sender is blamed for it, reason 4; under edition 1 it is 12. */
 static bool is_early(struct sojimu_state s, uint32_t side, const uint8_t *message, size_t n)
 {
-    const uint8_t early[5] = {SOJIMU_BLAMED, 0, (uint8_t)side, SOJIMU_EARLY, SOJIMU_NO_FIELD};
+    const uint8_t early[5] = {SOJIMU_BLAMED, 0, (uint8_t)side, SOJIMU_EARLY, 0};
     const uint8_t standing = side == SOJIMU_DEVICE ? SOJIMU_DEVICE_BLAMED : SOJIMU_HOST_BLAMED;
     return stays(&two, s, side, message, n, n, early, standing) && refuses(&one, s, side, message, n, n, 12) &&
            refuses(&one, s, side, message, n, 0, 12);
@@ -147,7 +147,7 @@ static void questions(void)
 /* A number that is no side's is refused by 12 under either edition, after 9, 10 and 11, and blames nobody. */
 static void no_side(void)
 {
-    static const uint32_t sides[] = {NOBODY, NO_SIDE, 255, 256, 257, 258, 65536, 65537, 65538, 0x80000001, 0xFFFFFFFF};
+    static const uint32_t sides[] = {2, 3, 255, 256, 257, 65536, 65537, 0x80000000, 0xFFFFFFFF};
     const struct sojimu_state beyond = STATE(3, SOJIMU_RUNNING), blamed = STATE(0, SOJIMU_HOST_BLAMED);
     for (size_t i = 0; i < sizeof sides / sizeof sides[0]; i++) {
         CHECK(refuses(&two, START, sides[i], ASK_100, sizeof ASK_100, ROOM, 12));

@@ -8,6 +8,8 @@ static const char device_text[] = "rec X.+{!Ask(int[0..50]).&{?Ok().X,?Busy().X}
 static const char other_text[] = "rec X.+{!Ask(int[0..200]).&{?Ok().X}}";
 static const char second_text[] = "edition 2 rec X.+{!Ask(int[0..100]).&{?Ok().X},!Quit().end}";
 
+static const char *const names[] = {"Device", "Host"};
+
 /* How far from its share a branch may be before the page shows it: 2.00 standard deviations. */
 enum { SETTING = 200 };
 
@@ -15,27 +17,12 @@ enum { SETTING = 200 };
  * for either. */
 enum { WAITING = 24 * SOJIMU_MESSAGE, TOGETHER = 4 * SOJIMU_MESSAGE };
 
-/* The bytes that wait on a side. */
-struct line {
-    uint8_t waiting[WAITING];
-    size_t length;
-};
-
-/* One conversation: its state, and its two lines. */
+/* One conversation: its state, and the bytes that wait on either side. */
 struct conversation {
     struct sojimu_state state;
-    struct line device, host;
+    uint8_t waiting[2][WAITING];
+    size_t length[2];
 };
-
-static struct line *line_of(struct conversation *talk, uint32_t side)
-{
-    return side == SOJIMU_DEVICE ? &talk->device : &talk->host;
-}
-
-static const char *name_of(uint32_t side)
-{
-    return side == SOJIMU_DEVICE ? "Device" : "Host";
-}
 
 /* Texts are read once, when the gateway starts. */
 static bool load(const char *text, struct sojimu_table *table)
@@ -58,14 +45,14 @@ static bool fits(const struct sojimu_table *device, const struct sojimu_table *p
         printf("fits, %u pairs\n", fit.count);
         return true;
     }
-    if (fit.outcome == SOJIMU_REFUSED) {
+    if (fit.outcome == SOJIMU_FIT_REFUSED) {
         printf("fit check refused %u\n", fit.question);
         return false;
     }
     printf("does not fit:");
     for (uint32_t i = 0; i < fit.count; i++)
         printf(" %d", list[i]);
-    if (fit.high != SOJIMU_NO_FIELD)
+    if (fit.high != SOJIMU_ALL_LOW)
         printf(", field %u high", fit.high);
     printf("\n");
     return false;
@@ -74,24 +61,23 @@ static bool fits(const struct sojimu_table *device, const struct sojimu_table *p
 /* Bytes have come from a side. Takes what there is room for, and says how many that were: the others are still the caller's. */
 static size_t receive(struct conversation *talk, uint32_t side, const char *bytes, size_t length)
 {
-    struct line *const line = line_of(talk, side);
-    const size_t room = WAITING - line->length;
+    const size_t room = WAITING - talk->length[side];
     const size_t taken = length < room ? length : room;
-    memcpy(line->waiting + line->length, bytes, taken);
-    line->length += taken;
+    memcpy(talk->waiting[side] + talk->length[side], bytes, taken);
+    talk->length[side] += taken;
     return taken;
 }
 
 /* Nothing more is passed on. Can it be once more bytes have come? Not behind bytes that never are a message, or a text that is no
  * UTF-8. */
-static bool may_go_on(const struct sojimu_table *protocol, struct conversation *talk, struct sojimu_verdict last)
+static bool may_go_on(const struct sojimu_table *protocol, const struct conversation *talk, struct sojimu_verdict last)
 {
     const struct sojimu_turn turn = sojimu_turn(protocol, &talk->state);
-    const struct line *const line = line_of(talk, turn.side);
     if (turn.question != 0)
         return false;
-    if ((last.outcome == SOJIMU_REFUSED && last.question == SOJIMU_NOT_UTF8) || sojimu_broken(line->waiting, line->length)) {
-        printf("no message from %s\n", name_of(turn.side));
+    if ((last.outcome == SOJIMU_REFUSED && last.question == 22) ||
+        sojimu_broken(talk->waiting[turn.side], talk->length[turn.side])) {
+        printf("no message from %s\n", names[turn.side]);
         return false;
     }
     return true;
@@ -100,12 +86,11 @@ static bool may_go_on(const struct sojimu_table *protocol, struct conversation *
 /* The first bytes of a side are used, and those that were forwarded go to the other side; here, to the log. */
 static void pass_on(struct conversation *talk, uint32_t from, size_t used, const uint8_t *out, size_t written)
 {
-    struct line *const line = line_of(talk, from);
     (void)out;
     if (written > 0)
-        printf("from %s: %zu bytes\n", name_of(from), written);
-    line->length -= used;
-    memmove(line->waiting, line->waiting + used, line->length);
+        printf("from %s: %zu bytes\n", names[from], written);
+    talk->length[from] -= used;
+    memmove(talk->waiting[from], talk->waiting[from] + used, talk->length[from]);
 }
 
 /* A batch of what waits, of which what was forwarded is passed on. Gives its last answer. */
@@ -113,8 +98,8 @@ static struct sojimu_verdict take(const struct sojimu_table *protocol, struct co
 {
     uint8_t to_device[TOGETHER], to_host[TOGETHER];
     const struct sojimu_batch batch =
-        sojimu_batch(protocol, &talk->state, talk->device.waiting, talk->device.length, talk->host.waiting, talk->host.length,
-                     to_device, sizeof to_device, to_host, sizeof to_host);
+        sojimu_batch(protocol, &talk->state, talk->waiting[SOJIMU_DEVICE], talk->length[SOJIMU_DEVICE],
+                     talk->waiting[SOJIMU_HOST], talk->length[SOJIMU_HOST], to_device, sizeof to_device, to_host, sizeof to_host);
     pass_on(talk, SOJIMU_DEVICE, batch.used_device, to_host, batch.written_to_host);
     pass_on(talk, SOJIMU_HOST, batch.used_host, to_device, batch.written_to_device);
     return batch.last;
@@ -126,12 +111,11 @@ static struct sojimu_verdict early(const struct sojimu_table *protocol, struct c
 {
     const struct sojimu_turn turn = sojimu_turn(protocol, &talk->state);
     const uint32_t side = turn.side == SOJIMU_DEVICE ? SOJIMU_HOST : SOJIMU_DEVICE;
-    const struct line *const line = line_of(talk, side);
-    const size_t length = sojimu_front(line->waiting, line->length).length;
+    const size_t length = sojimu_front(talk->waiting[side], talk->length[side]).length;
     uint8_t out[SOJIMU_MESSAGE];
-    if (protocol->edition != 2 || turn.question != 0 || length == 0 || length > line->length)
+    if (protocol->edition != 2 || turn.question != 0 || length == 0 || length > talk->length[side])
         return last;
-    const struct sojimu_verdict v = sojimu_step(protocol, &talk->state, side, line->waiting, length, out, sizeof out);
+    const struct sojimu_verdict v = sojimu_step(protocol, &talk->state, side, talk->waiting[side], length, out, sizeof out);
     return v.outcome == SOJIMU_BLAMED ? v : last;
 }
 
@@ -141,8 +125,7 @@ static void page(const struct sojimu_table *protocol, const struct sojimu_state 
     for (uint32_t branch = 0; branch < protocol->branches; branch++) {
         const struct sojimu_warning warning = sojimu_warning(protocol, state, branch);
         if (warning.question == 0 && warning.warns)
-            printf("branch %u of %s: %u in 1000, not %u\n", branch, name_of(warning.sender), warning.estimate,
-                   protocol->share[branch]);
+            printf("branch %u of %s: %u in 1000, not %u\n", branch, names[warning.sender], warning.estimate, protocol->share[branch]);
     }
 }
 
@@ -152,10 +135,10 @@ static bool pump(const struct sojimu_table *protocol, struct conversation *talk)
     struct sojimu_verdict last;
     do
         last = take(protocol, talk);
-    while (last.outcome == SOJIMU_REFUSED && last.question == SOJIMU_OUTPUT_TOO_SHORT); /* it was full, and has room again */
+    while (last.outcome == SOJIMU_REFUSED && last.question == 16); /* an output was full, and has room again */
     last = early(protocol, talk, last);
     if (last.outcome == SOJIMU_BLAMED) {
-        printf("%s blamed, reason %d\n", name_of(last.party), last.reason);
+        printf("%s blamed, reason %d\n", names[last.party], last.reason);
         return false;
     }
     page(protocol, &talk->state);
@@ -168,7 +151,7 @@ static bool hear(const struct sojimu_table *protocol, struct conversation *talk,
     while (length > 0) {
         const size_t taken = receive(talk, side, bytes, length);
         if (taken == 0) {
-            printf("too much from %s\n", name_of(side));
+            printf("too much from %s\n", names[side]);
             return false;
         }
         if (!pump(protocol, talk))

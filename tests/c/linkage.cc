@@ -11,7 +11,7 @@ static bool words(const uint8_t *message, size_t length, const sojimu_table *tab
     char name[9];
     const sojimu_decoded ask = sojimu_decode(message, length);
     const uint8_t lines[] = {0x0A, 0x0A, 0x20};
-    const struct sojimu_place place = sojimu_place(lines, sizeof lines, 2);
+    const struct sojimu_text_place place = sojimu_text_place(lines, sizeof lines, 2);
     return ask.question == 0 && ask.count == 1 && sojimu_int_of(ask.fields[0]) == 100 && !sojimu_flag_of(ask.fields[0]) &&
            std::strcmp(sojimu_label_name(ask.label, name), "Ask") == 0 && sojimu_branch_label(table, 0) == ask.label &&
            place.line == 3 && place.column == 1 && std::strcmp(sojimu_party_words(SOJIMU_HOST), "host") == 0 &&
@@ -30,7 +30,8 @@ static bool holds(const sojimu_table *protocol, const uint8_t *message, size_t l
     const sojimu_passed passed = sojimu_pass_logged(&talk, nullptr, 0, to_host, sizeof to_host, log, sizeof log);
     return begun && heard == length && none.to_host == 0 && none.more && passed.to_host == length && !passed.more &&
            passed.logged == length + 1 && std::memcmp(to_host, message, length) == 0 && log[0] == 0 &&
-           std::memcmp(log + 1, message, length) == 0 && talk.ended.outcome == SOJIMU_GOES_ON && sojimu_next_warning(&talk, 0).branch == SOJIMU_BRANCHES;
+           std::memcmp(log + 1, message, length) == 0 && talk.ended.outcome == SOJIMU_GOES_ON &&
+           sojimu_next_warning(&talk, 0).branch == SOJIMU_BRANCHES;
 }
 
 int main()

@@ -132,8 +132,8 @@ static void messages(void)
     second.edition = 2;
     CHECK(made.question == 0);
     NEEDS(sojimu_raw_make, SOJIMU_STACK_TABLE, AT(&table), 0, 0, AT(out), ROOM);
-    NEEDS(sojimu_raw_make, SOJIMU_STACK_TABLE, AT(&table), 0, SOJIMU_NO_FIELD, AT(out), 0);
-    for (uint32_t side = NOBODY; side <= SOJIMU_HOST; side++) {
+    NEEDS(sojimu_raw_make, SOJIMU_STACK_TABLE, AT(&table), 0, SOJIMU_ALL_LOW, AT(out), 0);
+    for (uint32_t side = 0; side < 3; side++) {
         state = start;
         NEEDS(sojimu_raw_step, SOJIMU_STACK_TABLE, AT(&table), AT(&state), AT(sojimu_counts(&state)), side, AT(message), made.length, AT(out), ROOM);
         state = start;
@@ -141,8 +141,7 @@ static void messages(void)
     }
     state = start;
     memcpy(message, "No", 2);
-    NEEDS(sojimu_raw_step, SOJIMU_STACK_TABLE, AT(&table), AT(&state), AT(sojimu_counts(&state)), SOJIMU_DEVICE, AT(message), made.length,
-          AT(out), ROOM);
+    NEEDS(sojimu_raw_step, SOJIMU_STACK_TABLE, AT(&table), AT(&state), AT(sojimu_counts(&state)), 0, AT(message), made.length, AT(out), ROOM);
     for (size_t room = 0; room <= ROOM; room += ROOM) {
         static struct sojimu_batch given;
         state = start;
@@ -161,7 +160,7 @@ static void messages(void)
     NEEDS(sojimu_range_legal, SOJIMU_STACK_OTHER, 1, 0, 0);
     NEEDS(sojimu_fresh, SOJIMU_STACK_TABLE, AT(&begun), AT(&table), SETTING);
     NEEDS(sojimu_version, SOJIMU_STACK_OTHER, 0);
-    NEEDS(sojimu_abi_7, SOJIMU_STACK_OTHER, 0);
+    NEEDS(sojimu_abi_6, SOJIMU_STACK_OTHER, 0);
 }
 
 int main(void)

@@ -9,7 +9,7 @@ static struct sojimu_table p;
 
 /* ---- starts */
 
-static const struct sojimu_state NOTHING, UNSTARTED = {0, SOJIMU_RUNNING, 0, {0}, {0}};
+static const struct sojimu_state NOTHING;
 
 static void starts(void)
 {
@@ -21,8 +21,8 @@ static void starts(void)
     }
     for (size_t i = 0; i < sizeof none / sizeof none[0]; i++) {
         const struct sojimu_started late = sojimu_fresh(&p, none[i]), early = sojimu_fresh(&empty, none[i]);
-        CHECK(late.question == 21 && same_states(&late.state, &UNSTARTED));
-        CHECK(early.question == 9 && same_states(&early.state, &UNSTARTED));
+        CHECK(late.question == 21 && same_states(&late.state, &NOTHING));
+        CHECK(early.question == 9 && same_states(&early.state, &NOTHING));
     }
     CHECK(sojimu_fresh(&empty, SETTING).question == 9);
 }
@@ -37,14 +37,14 @@ static bool all_nine(const struct sojimu_state *given)
     plain(ok, "Ok");
     mark();
     const struct sojimu_verdict v = sojimu_step(&p, &s, SOJIMU_DEVICE, ASK_100, sizeof ASK_100, out, ROOM);
-    const struct sojimu_verdict nobody = sojimu_step(&p, &s, NOBODY, ASK_100, sizeof ASK_100, out, ROOM);
+    const struct sojimu_verdict nobody = sojimu_step(&p, &s, 2, ASK_100, sizeof ASK_100, out, ROOM);
     const struct sojimu_batch b = sojimu_batch(&p, &s, ASK_100, sizeof ASK_100, ok, 9, out + 160, 160, out, 160);
     const struct sojimu_due due = sojimu_due(&p, &s, ASK_100, sizeof ASK_100, ok, 9);
     const struct sojimu_warning w = sojimu_warning(&p, &s, 0), beyond = sojimu_warning(&p, &s, 3);
     return v.outcome == SOJIMU_REFUSED && v.question == 9 && nobody.outcome == SOJIMU_REFUSED && nobody.question == 9 &&
            b.last.outcome == SOJIMU_REFUSED && b.last.question == 9 && b.used_device == 0 && b.written_to_host == 0 &&
-           sojimu_turn(&p, &s).question == 9 && due.side == NOBODY && due.length == 0 && w.question == 9 && w.warns == 0 &&
-           w.sender == NOBODY && w.estimate == SOJIMU_NO_ESTIMATE && beyond.question == 9 && same_states(&s, given) && opens(NULL, 0);
+           sojimu_turn(&p, &s).question == 9 && due.side == SOJIMU_DEVICE && due.length == 0 && w.question == 9 && w.warns == 0 &&
+           w.sender == 0 && w.estimate == SOJIMU_NO_ESTIMATE && beyond.question == 9 && same_states(&s, given) && opens(NULL, 0);
 }
 
 /* Three asked and two answered, as a state has it. */
@@ -59,7 +59,7 @@ static struct sojimu_state counted(void)
 static void nine(void)
 {
     struct sojimu_state s = counted();
-    CHECK(sojimu_turn(&p, &s).question == 0 && !all_nine(&s) && all_nine(&NOTHING) && all_nine(&UNSTARTED));
+    CHECK(sojimu_turn(&p, &s).question == 0 && !all_nine(&s) && all_nine(&NOTHING));
     for (size_t place = 0; place < 161; place++) {
         const bool looked_at = place <= 2 || (place >= 33 && place <= 35);
         for (unsigned bit = 0; bit < 16; bit++) {

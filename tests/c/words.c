@@ -74,8 +74,8 @@ static void reasons(void)
     CHECK(strcmp(sojimu_reason_words(SOJIMU_EARLY), "it is the other side's turn, under edition 2") == 0);
     CHECK(sojimu_reason_words(0)[0] == 0 && sojimu_reason_words(5)[0] == 0 && sojimu_reason_words(257)[0] == 0);
     CHECK(strcmp(sojimu_party_words(SOJIMU_DEVICE), "device") == 0 && strcmp(sojimu_party_words(SOJIMU_HOST), "host") == 0);
-    CHECK(sojimu_party_words(0)[0] == 0 && sojimu_party_words(3)[0] == 0 && sojimu_party_words(257)[0] == 0);
-    CHECK(sojimu_party_words(SOJIMU_RUNNING)[0] == 0 && sojimu_party_words(SOJIMU_DEVICE_BLAMED)[0] == 0);
+    CHECK(sojimu_party_words(2)[0] == 0 && sojimu_party_words(3)[0] == 0 && sojimu_party_words(257)[0] == 0);
+    CHECK(sojimu_party_words(256)[0] == 0 && sojimu_party_words(UINT32_MAX)[0] == 0);
 }
 
 /* ---- messages taken apart */
@@ -235,7 +235,7 @@ static void labels(void)
 
 static bool stands(const char *text, size_t at, size_t line, size_t column)
 {
-    const struct sojimu_place place = sojimu_place((const uint8_t *)text, strlen(text), at);
+    const struct sojimu_text_place place = sojimu_text_place((const uint8_t *)text, strlen(text), at);
     return place.line == line && place.column == column;
 }
 
@@ -247,7 +247,7 @@ static void places(void)
     CHECK(stands("ab\nc\n", 5, 3, 1) && stands("ab\nc\n", 6, 3, 1) && stands("ab\nc\n", SIZE_MAX, 3, 1));
     CHECK(stands("\n\n", 0, 1, 1) && stands("\n\n", 1, 2, 1) && stands("\n\n", 2, 3, 1));
     CHECK(stands("\r\nX", 1, 1, 2) && stands("\r\nX", 2, 2, 1) && stands("\xC3\xA9X", 2, 1, 3));
-    const struct sojimu_place nowhere = sojimu_place(NULL, 0, 7);
+    const struct sojimu_text_place nowhere = sojimu_text_place(NULL, 0, 7);
     CHECK(nowhere.line == 1 && nowhere.column == 1);
 
     const char *const unguarded = "rec X.\n  X", *const cut = "+{\n!A()";

@@ -748,7 +748,7 @@ fn forwarding_blame_and_fit_take_no_notice() {
     for (device, protocol) in [(SHARED, plain), (plain, SHARED), (SHARED, &other)] {
         assert_eq!(fits(device, protocol), Answer::Fits(3));
     }
-    assert_eq!(compare::report(SHARED.as_bytes(), b"end"), report(plain.as_bytes(), b"end"));
+    assert_eq!(sojimu::report(SHARED.as_bytes(), b"end"), report(plain.as_bytes(), b"end"));
 }
 
 #[test]
@@ -935,7 +935,7 @@ fn lists_of_a_hundred_moves_and_more() {
 fn reports_of_the_fewest_moves() {
     let same = |protocol: &str, device: &str, wanted: &str| {
         assert_eq!(String::from_utf8(report(protocol.as_bytes(), device.as_bytes())).unwrap(), wanted);
-        assert_eq!(String::from_utf8(compare::report(protocol.as_bytes(), device.as_bytes())).unwrap(), wanted);
+        assert_eq!(String::from_utf8(sojimu::report(protocol.as_bytes(), device.as_bytes())).unwrap(), wanted);
     };
     let device = "+{!A().+{!B().+{!C().end}},!D().+{!E().&{?F().end}}}";
     let protocol = "+{!A().+{!B().+{!X().end}},!D().+{!E().+{!G().end}}}";
@@ -1306,7 +1306,7 @@ fn fit_looks_at_the_protocols_edition_only() {
         for (device, _) in editions(device) {
             for (protocol, _) in editions(protocol) {
                 assert_eq!(shown(&device, &protocol), wanted);
-                let told = compare::report(protocol.as_bytes(), device.as_bytes());
+                let told = sojimu::report(protocol.as_bytes(), device.as_bytes());
                 assert_eq!(told, report(protocol.as_bytes(), device.as_bytes()));
             }
         }

@@ -48,8 +48,7 @@ fn the_plain_monitor() {
             let (device, host) = (waiting(&mut random, &lists), waiting(&mut random, &lists));
             let part = monitor::due(&lists, &second, &device, &host);
             let due = plain::due(&table, &state, &device, &host);
-            let side = monitor::awaited(&lists, &second).ok().map(party);
-            assert_eq!((due.side, due.message.len()), (side, part.length), "seed {seed}");
+            assert_eq!((due.side, due.message.len()), (party(part.side), part.length), "seed {seed}");
         }
         for branch in 0..=lists.branches.len() {
             let high = random.one_in(2).then(|| random.below(4));

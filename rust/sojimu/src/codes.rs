@@ -1,8 +1,8 @@
 //! From the numbers that the library gives back to the types of this crate.
 //!
-//! The proved library gives back no code that is not named in [`ffi`]. Should another one stand in an answer all the same, as in
-//! one of zeros that nothing has filled in, the answer is taken for a refusal by [`Question::UNSOUND`], which is a fault of the
-//! caller's program: nothing passes as forwarded, nobody is blamed, no device fits, and nothing panics.
+//! The proved library gives back no code that is not named in [`ffi`]. Should another one stand in an answer all the same, the
+//! answer is taken for a refusal by [`Question::UNSOUND`], which is a fault of the caller's program: nothing passes as forwarded,
+//! nobody is blamed, no device fits, and nothing panics.
 
 use crate::{ffi, Fitting, Party, Question, Reason, Verdict};
 
@@ -52,11 +52,10 @@ pub fn last(answer: ffi::Verdict) -> Option<Verdict> {
 /// The answer of a fit check.
 #[inline]
 pub fn fitting(answer: ffi::Fit) -> Fitting {
-    const NO_FIELD: u32 = ffi::NO_FIELD as u32;
-    match (u8::try_from(answer.outcome), answer.count as usize) {
-        (Ok(ffi::FITS), pairs) => Fitting::Fits { pairs },
-        (Ok(ffi::FAILS), moves) => Fitting::Fails { moves, high: (answer.high != NO_FIELD).then_some(answer.high) },
-        (Ok(ffi::REFUSED), _) => Fitting::Refused(question(answer.question)),
+    match (answer.outcome, answer.count as usize) {
+        (ffi::FITS, pairs) => Fitting::Fits { pairs },
+        (ffi::FAILS, moves) => Fitting::Fails { moves, high: (answer.high != ffi::ALL_LOW).then_some(answer.high) },
+        (ffi::FIT_REFUSED, _) => Fitting::Refused(question(answer.question)),
         _ => Fitting::Refused(Question::UNSOUND),
     }
 }
@@ -66,43 +65,35 @@ mod tests {
     use super::*;
 
     const UNSOUND: Verdict = Verdict::Refused(Question::UNSOUND);
-    const BLAME: ffi::Verdict = ffi::Verdict { outcome: 3, question: 0, party: 2, reason: 3, field: 1 };
-
-    #[test]
-    fn a_zeroed_answer_is_no_success() {
-        let zeros = ffi::Verdict { outcome: 0, question: 0, party: 0, reason: 0, field: 0 };
-        assert_eq!((verdict(zeros), last(zeros)), (UNSOUND, Some(UNSOUND)));
-        let zeros = ffi::Fit { outcome: 0, question: 0, count: 0, high: 0 };
-        assert_eq!(fitting(zeros), Fitting::Refused(Question::UNSOUND));
-    }
+    const BLAME: ffi::Verdict = ffi::Verdict { outcome: 2, question: 0, party: 1, reason: 3, field: 1 };
 
     #[test]
     fn every_outcome_of_a_step() {
         for outcome in 0..=u8::MAX {
             let wanted = match outcome {
-                1 => Verdict::Forwarded,
-                2 => Verdict::Refused(Question::NOT_RUNNING),
-                3 => Verdict::Blamed(Party::Host, Reason::OutOfRange(1)),
+                0 => Verdict::Forwarded,
+                1 => Verdict::Refused(Question::NOT_RUNNING),
+                2 => Verdict::Blamed(Party::Host, Reason::OutOfRange(1)),
                 _ => UNSOUND,
             };
             let answer = ffi::Verdict { outcome, question: 10, ..BLAME };
             assert_eq!(verdict(answer), wanted);
-            assert_eq!(last(answer), (outcome != 4).then_some(wanted));
+            assert_eq!(last(answer), (outcome != 3).then_some(wanted));
         }
     }
 
     #[test]
     fn every_outcome_of_a_fit_check() {
-        for outcome in (0..=300).chain([0x105, 0x1_0005, 0x8000_0005, u32::MAX]) {
+        for outcome in (0..=300).chain([0x1_0000, 0x1_0001, 0x8000_0000, u32::MAX]) {
             let wanted = match outcome {
+                0 => Fitting::Fits { pairs: 3 },
+                1 => Fitting::Fails { moves: 3, high: Some(1) },
                 2 => Fitting::Refused(Question::LIST_TOO_SHORT),
-                5 => Fitting::Fits { pairs: 3 },
-                6 => Fitting::Fails { moves: 3, high: Some(1) },
                 _ => Fitting::Refused(Question::UNSOUND),
             };
             assert_eq!(fitting(ffi::Fit { outcome, question: 17, count: 3, high: 1 }), wanted);
         }
-        let none_high = ffi::Fit { outcome: 6, question: 0, count: 3, high: 255 };
+        let none_high = ffi::Fit { outcome: 1, question: 0, count: 3, high: 255 };
         assert_eq!(fitting(none_high), Fitting::Fails { moves: 3, high: None });
     }
 

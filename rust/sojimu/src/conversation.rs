@@ -336,7 +336,9 @@ fn judge<'a>(
     log: &mut Log<'_>,
 ) -> Option<Verdict> {
     let Due { side, message } = protocol.due(state, &device.bytes[device.used..], &host.bytes[host.used..]);
-    let side = side.filter(|_| !message.is_empty())?;
+    if message.is_empty() {
+        return None;
+    }
     if !log.holds(message) {
         return Some(Verdict::Refused(Question::OUTPUT_TOO_SHORT));
     }

@@ -97,13 +97,16 @@ pub struct Warning {
     pub estimate: u32,
 }
 
-/// Outcomes, one list for all calls.
-pub const FORWARDED: u8 = 1;
-pub const REFUSED: u8 = 2;
-pub const BLAMED: u8 = 3;
-pub const NONE_DUE: u8 = 4;
-pub const FITS: u8 = 5;
-pub const FAILS: u8 = 6;
+/// A step's outcomes; of a batch's last answer also that none was due.
+pub const FORWARDED: u8 = 0;
+pub const REFUSED: u8 = 1;
+pub const BLAMED: u8 = 2;
+pub const NONE_DUE: u8 = 3;
+
+/// A fit check's outcomes.
+pub const FITS: u32 = 0;
+pub const FAILS: u32 = 1;
+pub const FIT_REFUSED: u32 = 2;
 
 /// Reasons.
 pub const NO_LABEL: u8 = 1;
@@ -111,8 +114,8 @@ pub const OTHER_KINDS: u8 = 2;
 pub const OUT_OF_RANGE: u8 = 3;
 pub const EARLY: u8 = 4;
 
-/// In the place of a field's number: no field. Of a made message: none is high, all numbers are low.
-pub const NO_FIELD: u8 = 255;
+/// In the place of a field's number: no field is high, all numbers are low.
+pub const ALL_LOW: u32 = 255;
 
 /// In the place of an estimate: there is none.
 pub const NO_ESTIMATE: u32 = 65535;
@@ -153,7 +156,7 @@ laid_out!(Warning, 16, 4, question 0, warns 4, sender 8, estimate 12);
 // two pointers, to its two bytes and to its counts. What is `safe` takes references and values alone.
 unsafe extern "C" {
     pub safe fn sojimu_version() -> u32;
-    pub safe fn sojimu_abi_7() -> u32;
+    pub safe fn sojimu_abi_6() -> u32;
     pub safe fn sojimu_sound(table: &Table) -> bool;
     pub safe fn sojimu_sound_at(table: &Table, position: u32) -> bool;
     pub safe fn sojimu_empty() -> Table;

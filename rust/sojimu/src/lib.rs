@@ -2,9 +2,12 @@
 //!
 //! The calls are those of document 01 and of the requests of document 02, and bear their names: [`Table::read`], [`Table::dual`],
 //! [`Table::make`], [`Table::fresh`], [`Table::step`], [`Table::due`], [`Table::batch`], [`Table::warning`], [`Table::fit`],
-//! [`report()`], and in [`message`] the questions that are asked of bytes alone. No call has a precondition, none allocates, none
-//! keeps anything, and tables and states are lent, never copied. What breaks the rules is refused by the number of its question,
-//! and a refusal changes nothing. [`matches()`] says whether archive and wrapper belong together.
+//! [`report_into`], and in [`message`] the questions that are asked of bytes alone. No call has a precondition, none but [`report`]
+//! allocates, none keeps anything, and tables and states are lent, never copied. What breaks the rules is refused by the number of
+//! its question, and a refusal changes nothing. [`matches()`] says whether archive and wrapper belong together.
+//!
+//! The crate is without std. Its feature `alloc`, which is on by default, has [`report`] and nothing else: without it nothing here
+//! allocates.
 //!
 //! ```
 //! use sojimu::{Party, Table, Verdict};
@@ -22,6 +25,9 @@
 #![no_std]
 #![deny(missing_docs)]
 #![deny(unsafe_code)]
+
+#[cfg(feature = "alloc")]
+extern crate alloc;
 
 mod batch;
 mod codes;
@@ -43,7 +49,9 @@ pub use fit::{Fitting, LONGEST_LIST};
 pub use message::LONGEST_MESSAGE;
 pub use monitor::{Due, Party, Reason, Standing, State, Verdict};
 pub use question::{Question, Refusal};
-pub use report::{report, LONGEST_REPORT};
+#[cfg(feature = "alloc")]
+pub use report::report;
+pub use report::{report_into, LONGEST_REPORT};
 pub use table::{Table, LONGEST_PROTOCOL, MOST_BRANCHES, MOST_FIELDS, MOST_OPEN, MOST_STATES};
 pub use version::{matches, version, VERSION};
 pub use warning::Warning;

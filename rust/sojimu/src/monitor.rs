@@ -2,14 +2,14 @@
 
 use crate::{codes, ffi, version, Question, Table, MOST_BRANCHES, MOST_STATES};
 
-/// A party to the conversation: the side that a message comes from. Its code is 1 or 2; 0 is nobody.
+/// A party to the conversation: the side that a message comes from.
 #[repr(u8)]
 #[derive(Clone, Copy, Debug, PartialEq, Eq, PartialOrd, Ord, Hash)]
 pub enum Party {
     /// The device: it says what a protocol writes with `!`.
-    Device = 1,
+    Device = 0,
     /// The host: it says what a protocol writes with `?`.
-    Host = 2,
+    Host = 1,
 }
 
 impl Party {
@@ -18,7 +18,7 @@ impl Party {
     /// ```
     /// use sojimu::Party;
     ///
-    /// assert_eq!((Party::of(Party::Host as u32), Party::of(0)), (Some(Party::Host), None));
+    /// assert_eq!((Party::of(Party::Host as u32), Party::of(2)), (Some(Party::Host), None));
     /// ```
     #[inline]
     pub fn of(code: u32) -> Option<Party> {
@@ -51,11 +51,11 @@ pub struct Standing(
 
 impl Standing {
     /// Nobody was blamed.
-    pub const RUNNING: Standing = Standing(16);
+    pub const RUNNING: Standing = Standing(0);
     /// The device was blamed, for ever.
-    pub const DEVICE_BLAMED: Standing = Standing(17);
+    pub const DEVICE_BLAMED: Standing = Standing(1);
     /// The host was blamed, for ever.
-    pub const HOST_BLAMED: Standing = Standing(18);
+    pub const HOST_BLAMED: Standing = Standing(2);
 }
 
 /// The state of one conversation, 324 bytes. A gateway keeps one for each, which [`Table::fresh`] makes, and lends it to each step
@@ -137,8 +137,8 @@ pub enum Verdict {
 /// The due message: a part of the bytes that wait on one side.
 #[derive(Clone, Copy, Debug, PartialEq, Eq, Hash)]
 pub struct Due<'a> {
-    /// The side whose turn it is; nobody where 9, 10 or 11 would refuse.
-    pub side: Option<Party>,
+    /// The side whose turn it is; the device where 9, 10 or 11 would refuse.
+    pub side: Party,
     /// The first message of that side's bytes, cut at their start. It is empty when none is due.
     pub message: &'a [u8],
 }
@@ -235,17 +235,16 @@ impl Table {
     /// let state = protocol.fresh(200)?;
     /// let (device, host) = (b"Done\0\0\0\0\0", b"Start\0\0\0\0Sto");
     /// let due = protocol.due(&state, device, host);
-    /// assert_eq!((due.side, due.message), (Some(Party::Host), &host[..9]));
+    /// assert_eq!((due.side, due.message), (Party::Host, &host[..9]));
     /// # Ok::<(), Box<dyn std::error::Error>>(())
     /// ```
     #[inline]
     pub fn due<'a>(&self, state: &State, device: &'a [u8], host: &'a [u8]) -> Due<'a> {
         let due = ffi::due(self, state, device, host);
-        let side = Party::of(due.side);
-        let (waiting, length) = match side {
-            Some(Party::Device) => (device, due.length as usize),
-            Some(Party::Host) => (host, due.length as usize),
-            None => (device, 0),
+        let (side, length) = Party::of(due.side).map_or((Party::Device, 0), |side| (side, due.length as usize));
+        let waiting = match side {
+            Party::Device => device,
+            Party::Host => host,
         };
         Due { side, message: waiting.get(..length).unwrap_or_default() }
     }

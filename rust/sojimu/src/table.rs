@@ -199,11 +199,10 @@ impl Table {
     /// ```
     #[inline]
     pub fn make(&self, branch: u32, high: Option<u32>, out: &mut [u8]) -> Result<usize, Question> {
-        const NO_FIELD: u32 = ffi::NO_FIELD as u32;
         let named = match high {
-            None => NO_FIELD,
+            None => ffi::ALL_LOW,
             // The code of "no field" as a field's number: one that no branch has either.
-            Some(NO_FIELD) => NO_FIELD + 1,
+            Some(ffi::ALL_LOW) => ffi::ALL_LOW + 1,
             Some(field) => field,
         };
         let made = ffi::make(self, branch, named, out);

@@ -2,11 +2,11 @@
 
 use crate::ffi;
 
-/// The version of the calls, codes and structs that this wrapper is written for: `SOJIMU_VERSION` of the header, and the first
-/// number of the package's version.
-pub const VERSION: u32 = 7;
+/// The version of the calls and structs that this wrapper is written for: `SOJIMU_VERSION` of the header, and the first number of
+/// the package's version.
+pub const VERSION: u32 = 6;
 
-/// The version of the static library that is linked. It is raised whenever a struct, a code or a call changes.
+/// The version of the static library that is linked. It is raised whenever a struct or a call changes.
 ///
 /// ```
 /// assert_eq!(sojimu::version(), sojimu::VERSION);
@@ -31,5 +31,5 @@ pub fn matches() -> bool {
 /// Refers to the symbol that only an archive of this version has. It is called for its name.
 #[inline]
 pub(crate) fn meets() {
-    ffi::sojimu_abi_7();
+    ffi::sojimu_abi_6();
 }

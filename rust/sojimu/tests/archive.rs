@@ -5,7 +5,8 @@ use std::path::{Path, PathBuf};
 use std::process::Command;
 use std::time::{Duration, SystemTime};
 
-/// A copy of this package at `rust/sojimu` in a folder of its own, two folders deep, so that all places are inside.
+/// A copy of this package at `rust/sojimu` in a folder of its own, two folders deep, so that all places are inside. It is outside the
+/// repository, where the gate takes no source but the crates', and goes with its test.
 struct Copy {
     outside: PathBuf,
 }
@@ -19,7 +20,8 @@ struct Built {
 impl Copy {
     /// One with nothing beside it.
     fn new(name: &str) -> Copy {
-        let outside = Path::new(env!("CARGO_TARGET_TMPDIR")).join("archive").join(name);
+        let outside =
+            std::env::temp_dir().canonicalize().unwrap().join(format!("sojimu-archive-{name}-{}", std::process::id()));
         fs::remove_dir_all(&outside).ok();
         let copy = Copy { outside };
         let own = Path::new(env!("CARGO_MANIFEST_DIR"));
@@ -68,6 +70,12 @@ impl Copy {
     }
 }
 
+impl Drop for Copy {
+    fn drop(&mut self) {
+        fs::remove_dir_all(&self.outside).ok();
+    }
+}
+
 impl Built {
     fn is_well(&self) {
         assert!(self.well, "{}", self.said);
@@ -87,7 +95,7 @@ fn archive() -> Vec<u8> {
 /// The same with another version in its symbol, or without that symbol.
 fn renamed(symbol: &[u8; 12]) -> Vec<u8> {
     let mut bytes = archive();
-    let places: Vec<usize> = (0..bytes.len() - 12).filter(|&at| &bytes[at..at + 12] == b"sojimu_abi_7").collect();
+    let places: Vec<usize> = (0..bytes.len() - 12).filter(|&at| &bytes[at..at + 12] == b"sojimu_abi_6").collect();
     assert!(!places.is_empty());
     places.into_iter().for_each(|at| bytes[at..at + 12].copy_from_slice(symbol));
     bytes
@@ -106,7 +114,7 @@ fn none_beside_the_package() {
         tried.replace('\n', "\n  ")
     ));
     built.fails_with(&format!("Name its folder in SOJIMU_LIB_DIR, in full or relative to {}.", package.display()));
-    built.fails_with("`rt staticlib sojimu` makes it");
+    built.fails_with("`tools/archive` makes it");
 }
 
 #[test]
@@ -137,23 +145,22 @@ fn named_in_full_or_relative_to_the_package() {
 #[test]
 fn the_first_place_counts() {
     let copy = Copy::new("places");
-    let other = renamed(b"sojimu_abi_8");
+    let other = renamed(b"sojimu_abi_7");
     for place in ["../../lib", "target/staticlib", "lib"] {
         let put = copy.put(Path::new(place).join("libsojimu.a"), &archive());
         copy.build("").is_well();
         fs::write(put, &other).unwrap();
-        copy.build("").fails_with("has version 8; this package needs version 7");
+        copy.build("").fails_with("has version 7; this package needs version 6");
     }
 }
 
 #[test]
 fn an_archive_of_another_version() {
     let copy = Copy::new("version");
-    let lib = copy.put("lib/libsojimu.a", &renamed(b"sojimu_abi_6"));
-    copy.build("").fails_with(&format!("sojimu: {} has version 6; this package needs version 7", lib.display()));
+    let lib = copy.put("lib/libsojimu.a", &renamed(b"sojimu_abi_5"));
+    copy.build("").fails_with(&format!("sojimu: {} has version 5; this package needs version 6", lib.display()));
     fs::write(&lib, renamed(b"sojimu_other")).unwrap();
-    copy.build("")
-        .fails_with(&format!("sojimu: {} has no version, as those before 7; this package needs version 7", lib.display()));
+    copy.build("").fails_with(&format!("sojimu: {} names no version; this package needs version 6", lib.display()));
     fs::write(&lib, archive()).unwrap();
     copy.build("").is_well();
 }
@@ -172,13 +179,14 @@ fn an_archive_that_is_older_than_a_source() {
         let lib = copy.put("target/staticlib/libsojimu.a", &archive());
         touch(&lib, 1);
         copy.put("crates/codes/notes.txt", b"");
+        copy.put("crates/codes/out/rlib/codes.rlib/lang/src/lib.rt", b"");
         touch(&copy.put("crates.txt", b""), 2);
         touch(&copy.put(source, b""), 2);
         copy.build("").is_well();
         touch(&copy.put(source, b""), 0);
         let newer = copy.package().join("../..").join(source);
         let warning = format!(
-            "warning: sojimu@7.0.0: {} is older than {}: `rt staticlib sojimu` makes it anew\n",
+            "warning: sojimu@6.0.0: {} is older than {}: `tools/archive` makes it anew\n",
             lib.display(),
             newer.display()
         );
@@ -202,7 +210,7 @@ fn a_release_is_not_older_than_its_specs() {
 #[test]
 fn another_version_does_not_link() {
     let copy = Copy::new("linker");
-    let lib = copy.put("lib/libsojimu.a", &renamed(b"sojimu_abi_8"));
+    let lib = copy.put("lib/libsojimu.a", &renamed(b"sojimu_abi_7"));
     let folder = lib.parent().unwrap().display().to_string();
     let lines = ["rerun-if-changed=../../lib", &format!("rustc-link-search=native={folder}"), "rustc-link-lib=static=sojimu"];
     let lines: String = lines.iter().map(|line| format!("    println!(\"cargo::{line}\");\n")).collect();
@@ -212,8 +220,8 @@ fn another_version_does_not_link() {
     for (name, program) in [("reads", reads), ("starts", starts)] {
         copy.put(format!("rust/sojimu/examples/{name}.rs"), program.as_bytes());
         let build = || copy.build_with("", &["--example", name]);
-        fs::write(&lib, renamed(b"sojimu_abi_8")).unwrap();
-        build().fails_with("sojimu_abi_7");
+        fs::write(&lib, renamed(b"sojimu_abi_7")).unwrap();
+        build().fails_with("sojimu_abi_6");
         fs::write(&lib, archive()).unwrap();
         build().is_well();
     }

@@ -8,7 +8,7 @@ use super::play::{play, Fate, Move, Played};
 use super::style::Style;
 use super::text::{columns, padded, Text};
 use super::{not_drawn, refuse, refused, said, words, write_picture, Ending, Status, Trouble, World};
-use sojimu::{Fitting, Party, Reason, LONGEST_LIST, LONGEST_REPORT};
+use sojimu::{Fitting, Party, Reason, LONGEST_LIST};
 
 /// How wide the messages of the moves are set at most.
 const WIDE: usize = 44;
@@ -31,16 +31,15 @@ enum Answer {
 /// The report, to the byte, and the status that its first words say; and a picture beside it, where one is asked for.
 pub fn report(pair: &Pair, world: &mut World) -> Ending {
     let (protocol, device) = texts(pair, world)?;
-    let mut out = [0; LONGEST_REPORT];
-    let report = sojimu::report(&protocol.bytes, &device.bytes, &mut out).expect("a buffer that holds every report");
-    world.out.write_all(report)?;
+    let report = sojimu::report(&protocol.bytes, &device.bytes);
+    world.out.write_all(&report)?;
     if pair.picture.is_some() {
         match (Described::of(protocol), Described::of(device)) {
             (Ok(protocol), Ok(device)) => Checked::of(protocol, device).draw(pair)?,
             _ => not_drawn(pair.picture.as_deref(), world),
         }
     }
-    Ok(match report {
+    Ok(match report.as_slice() {
         [b'f', ..] => Status::Good,
         [b'n', ..] => Status::Bad,
         _ => Status::Refused,

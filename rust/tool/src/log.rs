@@ -9,7 +9,7 @@ use std::fs::File;
 use std::io::{ErrorKind, Read};
 use std::ops::Range;
 
-/// The side bytes of logs, by document 02. They are not the codes of sides.
+/// The side bytes of logs, by document 02.
 const DEVICE: u8 = 0;
 const HOST: u8 = 1;
 

@@ -238,14 +238,14 @@ fn judge(table: &Table, position: u8, message: &Parsed<'_>) -> Result<usize, Rea
 #[inline(never)]
 pub fn due<'a>(table: &Table, state: &State, device: &'a [u8], host: &'a [u8]) -> Due<'a> {
     let Ok(side) = turn(table, state) else {
-        return Due { side: None, message: &device[..0] };
+        return Due { side: Party::Device, message: &device[..0] };
     };
     let waiting = if side == Party::Device { device } else { host };
     let length = match front(waiting) {
         Ok(parsed) if parsed.length <= waiting.len() => parsed.length,
         _ => 0,
     };
-    Due { side: Some(side), message: &waiting[..length] }
+    Due { side, message: &waiting[..length] }
 }
 
 /// The message of a branch.

@@ -71,14 +71,14 @@ impl Scan {
         loop {
             let due = table.due(&self.state, device, host);
             let length = due.message.len();
-            let Some(side) = due.side.filter(|_| length > 0) else {
+            if length == 0 {
                 return taken;
-            };
-            let (waiting, output) = match side {
+            }
+            let (waiting, output) = match due.side {
                 Party::Device => (&mut device, &mut to_host),
                 Party::Host => (&mut host, &mut to_device),
             };
-            table.step(&mut self.state, side, due.message, output);
+            table.step(&mut self.state, due.side, due.message, output);
             *waiting = &waiting[length..];
             *output = &mut take(output)[length..];
             taken += 1;

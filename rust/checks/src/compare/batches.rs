@@ -184,14 +184,14 @@ fn by_single_steps(given: &Given, table: &Table) -> (Left, usize) {
     loop {
         let due = table.due(state, &device[batch.used_device..], &host[batch.used_host..]);
         let length = due.message.len();
-        let Some(side) = due.side.filter(|_| length > 0) else {
+        if length == 0 {
             return (left, forwarded);
-        };
-        let (output, used, written) = match side {
+        }
+        let (output, used, written) = match due.side {
             Party::Device => (&mut *to_host, &mut batch.used_device, &mut batch.written_to_host),
             Party::Host => (&mut *to_device, &mut batch.used_host, &mut batch.written_to_device),
         };
-        let verdict = table.step(state, side, due.message, &mut output[*written..]);
+        let verdict = table.step(state, due.side, due.message, &mut output[*written..]);
         batch.last = Some(verdict);
         if !matches!(verdict, Verdict::Refused(_)) {
             *used += length;

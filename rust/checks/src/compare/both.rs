@@ -7,7 +7,7 @@ use crate::second::monitor as second;
 use crate::second::table::{self, Raw};
 use crate::second::text;
 use crate::second::warning;
-use sojimu::{Batch, Party, Question, Reason, Standing, State, Table, Verdict, Warning, LONGEST_REPORT};
+use sojimu::{Batch, Party, Question, Reason, Standing, State, Table, Verdict, Warning};
 
 /// A table as words, and the same as the second implementation has it; there, words that are not sound are the empty table.
 pub struct Both {
@@ -130,22 +130,18 @@ pub fn verdict(verdict: second::Verdict) -> Verdict {
     }
 }
 
-/// An outcome with nothing else: what does not apply is 0, of a field 255.
-fn outcome(outcome: u8) -> ffi::Verdict {
-    ffi::Verdict { outcome, question: 0, party: 0, reason: 0, field: ffi::NO_FIELD }
-}
-
-/// The verdict in the bytes that it is given back in.
+/// The verdict in the bytes that it is given back in: what does not apply is 0.
 pub fn verdict_codes(verdict: second::Verdict) -> ffi::Verdict {
+    let nothing = ffi::Verdict { outcome: 0, question: 0, party: 0, reason: 0, field: 0 };
     match verdict {
-        second::Verdict::Forwarded => outcome(ffi::FORWARDED),
-        second::Verdict::Refused(question) => ffi::Verdict { question, ..outcome(ffi::REFUSED) },
+        second::Verdict::Forwarded => nothing,
+        second::Verdict::Refused(question) => ffi::Verdict { outcome: 1, question, ..nothing },
         second::Verdict::Blamed(side, reason) => {
             let field = match reason {
-                second::Reason::Label | second::Reason::Kinds | second::Reason::Early => ffi::NO_FIELD,
+                second::Reason::Label | second::Reason::Kinds | second::Reason::Early => 0,
                 second::Reason::Range(field) => field as u8,
             };
-            ffi::Verdict { party: party(side) as u8, reason: reason.number(), field, ..outcome(ffi::BLAMED) }
+            ffi::Verdict { outcome: 2, party: party(side) as u8, reason: reason.number(), field, ..nothing }
         }
     }
 }
@@ -159,7 +155,8 @@ pub fn batch(batch: batch::Batch) -> Batch {
 /// The batch in the numbers that it is given back in.
 pub fn batch_codes(batch: batch::Batch) -> ffi::Batch {
     let batch::Batch { used_device, used_host, written_to_device, written_to_host, last } = batch;
-    let last = last.map_or(outcome(ffi::NONE_DUE), verdict_codes);
+    let none_due = ffi::Verdict { outcome: 3, question: 0, party: 0, reason: 0, field: 0 };
+    let last = last.map_or(none_due, verdict_codes);
     ffi::Batch { used_device, used_host, written_to_device, written_to_host, last, reserved: [0; 3] }
 }
 
@@ -169,21 +166,15 @@ pub fn warning(told: warning::Told) -> Warning {
     Warning { warns, sender: party(sender), estimate }
 }
 
-/// The same in the numbers that it is given back in: what does not apply is 0, of the estimate 65535.
+/// The same in the numbers that it is given back in: what does not apply is 0, and where there is no estimate, 65535.
 pub fn warning_codes(told: Result<warning::Told, u8>) -> ffi::Warning {
     match told {
-        Err(question) => ffi::Warning { question: question.into(), warns: 0, sender: 0, estimate: ffi::NO_ESTIMATE },
+        Err(question) => ffi::Warning { question: question.into(), warns: 0, sender: 0, estimate: 65535 },
         Ok(warning::Told { warns, sender, estimate }) => {
             let (warns, sender) = (warns.into(), party(sender) as u32);
-            ffi::Warning { question: 0, warns, sender, estimate: estimate.unwrap_or(ffi::NO_ESTIMATE) }
+            ffi::Warning { question: 0, warns, sender, estimate: estimate.unwrap_or(65535) }
         }
     }
-}
-
-/// The proved library's report.
-pub fn report(protocol: &[u8], device: &[u8]) -> Vec<u8> {
-    let mut out = [0; LONGEST_REPORT];
-    sojimu::report(protocol, device, &mut out).map_or(Vec::new(), <[u8]>::to_vec)
 }
 
 /// An answer's question and number: 0 and the number, or the question that got a no and 0.

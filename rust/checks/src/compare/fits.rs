@@ -158,15 +158,14 @@ fn check(device: &Both, protocol: &Both, room: usize, tally: &mut Tally) -> Resu
     Ok(answer)
 }
 
-/// The answer in the numbers that it is given back in: what does not apply is 0, of a field 255.
+/// The answer in the numbers that it is given back in: what does not apply is 0, and where no field is high, 255.
 fn codes(answer: Answer) -> ffi::Fit {
     let (outcome, question, count, high) = match answer {
-        Answer::Fits(pairs) => (ffi::FITS, 0, pairs, None),
-        Answer::NoFit(moves, high) => (ffi::FAILS, 0, moves, high),
-        Answer::Refused(question) => (ffi::REFUSED, question.into(), 0, None),
+        Answer::Fits(pairs) => (0, 0, pairs, None),
+        Answer::NoFit(moves, high) => (1, 0, moves, high),
+        Answer::Refused(question) => (2, question.into(), 0, None),
     };
-    let high = high.map_or(ffi::NO_FIELD.into(), |field| field as u32);
-    ffi::Fit { outcome: outcome.into(), question, count: count as u32, high }
+    ffi::Fit { outcome, question, count: count as u32, high: high.map_or(255, |field| field as u32) }
 }
 
 fn count(answer: Fitting, tally: &mut Tally) {

@@ -28,7 +28,7 @@ mod turns;
 mod utf8;
 mod warnings;
 
-pub use both::{batch, party, report, state, state_after, state_codes, verdict, warning};
+pub use both::{batch, party, state, state_after, state_codes, verdict, warning};
 pub use editions::Issued;
 pub use encodings::Encoded;
 pub use endings::Batched;

@@ -1,7 +1,7 @@
 //! Report texts. Which of the shortest lists is shown is left free: the moves are played on the document's machine, and they are
 //! those of the second implementation's rule.
 
-use super::{report, show, Outcome, Tally};
+use super::{show, Outcome, Tally};
 use crate::second::fit::{moves, shows_no_fit};
 use crate::second::machine::play_all;
 use crate::second::monitor::Side;
@@ -9,6 +9,7 @@ use crate::second::random::{any_text, label_of, text_pair, two_ways_texts, Rando
 use crate::second::report as second;
 use crate::second::table::Table;
 use crate::second::text::read;
+use sojimu::{report, report_into};
 
 /// A byte of the buffer before the call.
 const UNTOUCHED: u8 = 0xEE;
@@ -34,7 +35,7 @@ pub fn case(random: &mut Random, tally: &mut Tally) -> Outcome {
 
     let room = if random.one_in(2) { random.below(text.len()) } else { text.len() + random.below(3) };
     let (mut out, mut wanted) = (vec![UNTOUCHED; room], vec![UNTOUCHED; room]);
-    let held = sojimu::report(&protocol, &device, &mut out).map(<[u8]>::len);
+    let held = report_into(&protocol, &device, &mut out);
     let length = (room >= text.len()).then_some(text.len());
     if let Some(length) = length {
         wanted[..length].copy_from_slice(&text);

@@ -81,18 +81,12 @@ pub fn anywhere(random: &mut Random, sound: &Table, odds: Odds) -> (Both, State)
     }
     let beyond = usize::from(random.one_in(odds.beyond));
     let position = random.below(sound.states.len() + beyond);
-    let standing = if random.one_in(odds.stopped) { stopped(random) } else { Standing::RUNNING };
+    let standing = if random.one_in(odds.stopped) { *random.pick(&[1, 2, 3, 4, 127, 128, 255]) } else { 0 };
     let mut state = state_at(random, sound, position);
     if random.one_in(odds.counts) {
         state = damaged_counts(random, sound, &state);
     }
-    (Both::of(&columns), State { standing, ..state_codes(&state) })
-}
-
-/// A standing that is not running: a blame, or a code that is none.
-fn stopped(random: &mut Random) -> Standing {
-    let none = [0, 1, 2, 15, 19, 127, 128, 255].map(Standing);
-    *random.pick(&[&[Standing::DEVICE_BLAMED, Standing::HOST_BLAMED], &none[..]].concat())
+    (Both::of(&columns), State { standing: Standing(standing), ..state_codes(&state) })
 }
 
 /// A conversation begins, through both: the state or the question, and every number that is given back. A refused one has counts
@@ -143,7 +137,7 @@ pub fn step_of(given: &Given, both: &Both, tally: &mut Tally) -> Result<State, S
 /// The step of a side that is neither: 12, after 9, 10 and 11, under either edition. Nothing changes.
 pub fn nobodys_step(random: &mut Random, given: &Given, both: &Both, tally: &mut Tally) -> Outcome {
     let Given { state: before, message, room, .. } = given;
-    let code = *random.pick(&[0, 3, 16, 17, 18, 255, 256, 257, 258, 0x1_0001, 0x1_0002, 0x8000_0001, 0x8000_0002, u32::MAX]);
+    let code = *random.pick(&[2, 3, 255, 256, 257, 0x1_0000, 0x1_0001, 0x8000_0000, 0x8000_0001, u32::MAX]);
     let question = given.speaker(both).err().unwrap_or(12);
     count_neither(given, both, question, tally);
     let (mut after, mut output) = (*before, vec![UNTOUCHED; *room]);
@@ -170,7 +164,6 @@ pub fn due_of(given: &Given, both: &Both, device: &[u8], host: &[u8], tally: &mu
     }
     // The part begins where that side's bytes begin.
     let place = (part.side, part.message.as_ptr(), part.message.len(), told.side, told.length);
-    let side = speaker.ok();
-    let code = side.map_or(0, |side| side as u32);
-    tally.same("due", place, (side, waiting.as_ptr(), wanted.length, code, wanted.length as u32), show)
+    let side = party(wanted.side);
+    tally.same("due", place, (side, waiting.as_ptr(), wanted.length, side as u32, wanted.length as u32), show)
 }

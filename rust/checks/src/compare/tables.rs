@@ -118,9 +118,8 @@ fn make(random: &mut Random, both: &Both, tally: &mut Tally) -> Outcome {
 
     let mut outputs = [[UNTOUCHED; 300]; 2];
     let made = both.proved.make(branch, high, &mut outputs[0][..room]);
-    // The code of no field, as a field's number, is one that no branch has, as the next one is.
-    let none = u32::from(ffi::NO_FIELD);
-    let named = high.map_or(none, |field| if field == none { none + 1 } else { field });
+    // The code 255 names no field, and no branch has field 256.
+    let named = high.map_or(255, |field| if field == 255 { 256 } else { field });
     let given = ffi::make(&both.proved, branch, named, &mut outputs[1][..room]);
     tally.asked(made.err());
     tally.same("make", (made, (given.question, given.length), outputs), second, || {

@@ -124,11 +124,11 @@ impl Calls for Proved {
     }
 
     fn report(&self, protocol: &[u8], device: &[u8]) -> Vec<u8> {
-        compare::report(protocol, device)
+        sojimu::report(protocol, device)
     }
 
     fn report_into(&self, protocol: &[u8], device: &[u8], out: &mut [u8]) -> usize {
-        sojimu::report(protocol, device, out).map_or(0, <[u8]>::len)
+        sojimu::report_into(protocol, device, out).unwrap_or(0)
     }
 }
 

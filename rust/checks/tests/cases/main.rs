@@ -185,7 +185,7 @@ impl Run<'_> {
             'd' => self.warning(given),
             'g' => {
                 self.state = self.calls.fresh(&self.table, SETTING.into()).unwrap();
-                vec![self.state.position.into(), standing_number(self.state.standing)]
+                vec![self.state.position.into(), self.state.standing.0.into()]
             }
             's' => {
                 let mut state = state(given);
@@ -269,7 +269,7 @@ impl Run<'_> {
         let started = self.calls.fresh(&self.table, setting);
         self.state = started.unwrap_or(State { setting: 0, ..uncounted(0, Standing::RUNNING) });
         let State { position, standing, setting, .. } = self.state;
-        vec![started.err().unwrap_or(0).into(), position.into(), standing_number(standing), setting.into()]
+        vec![started.err().unwrap_or(0).into(), position.into(), standing.0.into(), setting.into()]
     }
 
     /// A state with a setting, n of each state of the table, and k of each branch.
@@ -295,7 +295,7 @@ impl Run<'_> {
         let state = self.state(&given[..2], given[2], &given[4..]);
         match self.calls.warning(&self.table, &state, word(given[3])) {
             Ok(Warning { warns, sender, estimate }) => {
-                vec![0, warns.into(), side_number(sender), estimate.map_or(NO_ESTIMATE, u64::from)]
+                vec![0, warns.into(), sender as u64, estimate.map_or(NO_ESTIMATE, u64::from)]
             }
             Err(question) => vec![question.into(), 0, 0, NO_ESTIMATE],
         }
@@ -306,7 +306,7 @@ impl Run<'_> {
         let mut output = vec![UNTOUCHED; given[1] as usize];
         let verdict = self.calls.step(&self.table, state, side(given[0]), &bytes(&given[2..]), &mut output);
         let mut numbers = answer(verdict).to_vec();
-        numbers.extend([u64::from(state.position), standing_number(state.standing)]);
+        numbers.extend([u64::from(state.position), state.standing.0.into()]);
         numbers.extend(output.into_iter().map(u64::from));
         numbers
     }
@@ -321,7 +321,7 @@ impl Run<'_> {
         let counts = [used_device, used_host, written_to_device, written_to_host];
         let mut numbers: Vec<u64> = counts.into_iter().map(|count| count as u64).collect();
         numbers.extend(last.map_or(NONE_DUE, answer));
-        numbers.extend([u64::from(state.position), standing_number(state.standing)]);
+        numbers.extend([u64::from(state.position), state.standing.0.into()]);
         numbers.extend(to_device.into_iter().chain(to_host).map(u64::from));
         numbers
     }
@@ -397,7 +397,7 @@ fn answer(verdict: Verdict) -> [u64; 4] {
                 Reason::OutOfRange(field) => field.into(),
                 Reason::NoLabel | Reason::OtherKinds | Reason::Early => NO_FIELD,
             };
-            [1, side_number(party), reason.number().into(), field]
+            [1, party as u64, reason.number().into(), field]
         }
         Verdict::Forwarded => [2, 0, 0, 0],
     }
@@ -437,32 +437,18 @@ fn two_texts(given: &[u64]) -> (Vec<u8>, Vec<u8>) {
     (bytes(parts[0]), bytes(parts[1]))
 }
 
-/// The files have numbers of their own for sides and standings.
-const SIDES: [Party; 2] = [Party::Device, Party::Host];
-const STANDINGS: [Standing; 3] = [Standing::RUNNING, Standing::DEVICE_BLAMED, Standing::HOST_BLAMED];
-
 fn side(number: u64) -> Party {
-    SIDES[number as usize]
-}
-
-fn side_number(party: Party) -> u64 {
-    SIDES.iter().position(|&side| side == party).unwrap() as u64
-}
-
-/// A number beyond is the code of no standing, as which it stays.
-fn standing(number: u64) -> Standing {
-    let beyond = Standing(u8::try_from(number).unwrap());
-    assert!(!STANDINGS.contains(&beyond));
-    STANDINGS.get(number as usize).copied().unwrap_or(beyond)
-}
-
-fn standing_number(standing: Standing) -> u64 {
-    STANDINGS.iter().position(|&one| one == standing).map_or(standing.0.into(), |number| number as u64)
+    match number {
+        0 => Party::Device,
+        1 => Party::Host,
+        _ => panic!("no such side: {number}"),
+    }
 }
 
 /// Given: position, standing.
 fn state(given: &[u64]) -> State {
-    uncounted(u8::try_from(given[0]).unwrap(), standing(given[1]))
+    let byte = |number: u64| u8::try_from(number).unwrap();
+    uncounted(byte(given[0]), Standing(byte(given[1])))
 }
 
 /// A state in which nothing is counted.
