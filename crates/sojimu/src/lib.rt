@@ -20,3 +20,11 @@ pub extern "C" fn sojimu_version() -> u32
 {
     6
 }
+
+// The same number, by a name that carries it: header and wrapper refer to it, so that what is written for another version does not link.
+#[unsafe(no_mangle)]
+pub extern "C" fn sojimu_abi_6() -> u32
+    ensures { result ≡ 6 }
+{
+    6
+}

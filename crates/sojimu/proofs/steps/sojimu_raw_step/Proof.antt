@@ -1,21 +1,9 @@
 -- `sojimu::steps::sojimu_raw_step` meets its contract: one law of the parts for each return. Assumes nothing.
+use native.Mathlib.Omega.{arith}
 use borrow.Author.Rules.{rules}
 use Rattle.sojimu.proofs.laws.Parts.{no_side, crossed, uncrossed}
 use Rattle.sojimu.proofs.steps.sojimu_raw_step.Statement.{statement}
 use Rattle.sojimu.proofs.steps.sojimu_raw_step.Tie as tie
-
-returns : tie.Need-returns-then-side-gt1
-returns c =
-    let a = c.args in
-    uncrossed _ _ a.side a.state.now a.counts.now a.message.now a.out.now _ _ c.state_of-s.ensures (no_side a.side c.if-side-gt1.true)
-    c.unspoken-refusal.ensures c.verdict_codes.ensures
-
-returns-2 : tie.Need-returns
-returns-2 c =
-    let a = c.args in
-    crossed _ _ a.side _ a.state.now a.counts.now a.message.now a.out.now _ _ _ _ _ c.state_of-s.ensures
-    (c.party_of-speaker.ensures c.if-side-gt1.false)
-    c.step-r.ensures c.keep.ensures c.verdict_codes-2.ensures
 
 pub sojimu_raw_step_spec : {M : Type 1} → statement M
 sojimu_raw_step_spec =
@@ -26,10 +14,15 @@ sojimu_raw_step_spec =
     (λ c κs. search rules)
     (λ c κs. search rules)
     (λ c κs. search rules)
-    returns
+    (λ c. let a = c.args in
+    uncrossed _ _ a.side a.state.now a.counts.now a.message.now a.out.now _ _ c.state_of-s.ensures (no_side a.side (omega arith))
+    c.unspoken-refusal.ensures c.verdict_codes.ensures)
     (λ c κs. search rules)
     (λ c κs. search rules)
     (λ c κs. search rules)
     (λ c κs. search rules)
     (λ c. search rules)
-    returns-2)
+    (λ c. let a = c.args in
+    crossed _ _ a.side _ a.state.now a.counts.now a.message.now a.out.now _ _ _ _ _ c.state_of-s.ensures
+    (c.party_of-speaker.ensures (omega arith))
+    c.step-r.ensures c.keep.ensures c.verdict_codes-2.ensures))

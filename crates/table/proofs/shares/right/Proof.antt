@@ -17,12 +17,6 @@ decreases-loop t n m sums₀ k₀ sums k = n - k
 loop-holds : tie.Need-loop-k-init invariant-loop decreases-loop
 loop-holds c = (search rules, search rules, summed_none _)
 
-returns : tie.Need-returns-then-share-gt1000 invariant-loop decreases-loop
-returns c =
-    let k = c.before.before.before.loop-k.k in
-    let w = share_at c.before.before.before.before.args.t.now k in
-    sym (refuted _ (λ e. never (share_most _ _ c.before.before.before.loop-k.invariant.1 e k (omega arith)) (lt-leb w 1000 (omega (arith, c.if-share-gt1000.true)))))
-
 state : (c : tie.After-i-1 invariant-loop decreases-loop) → owner_at c.before.before.before.before.before.args.t.now c.before.before.before.before.loop-k.k < 32
 state c = owner_small _ _ _ _ c.before.before.before.before.loop-k.invariant.1 (omega arith)
 
@@ -50,7 +44,7 @@ array-write-sums c = state c.before
 loop-again : tie.Need-loop-k-preserved invariant-loop decreases-loop
 loop-again c =
     let i = c.before.before.before.before.before.loop-k.invariant in
-    (search rules, search rules, summed_more _ _ _ i.2 c.before.before.if-share-gt1000.false (state c.before) _ c.weight.ensures.0)
+    (search rules, search rules, summed_more _ _ _ i.2 (omega arith) (state c.before) _ c.weight.ensures.0)
 
 all-right-requires : tie.Need-all_right-requires invariant-loop decreases-loop
 all-right-requires c κs = omega (arith, c.before.before.loop-k.invariant.1.few, c.before.before.loop-k.invariant.1.states)
@@ -68,7 +62,8 @@ right_spec =
     (λ c. search rules)
     (λ c. search rules)
     (λ c. search rules)
-    returns
+    (λ c. let w = share_at c.args.t.now c.loop-k.k in
+    sym (refuted _ (λ e. never (share_most _ _ c.loop-k.invariant.1 e c.loop-k.k (omega arith)) (lt-leb w 1000 (omega arith)))))
     (λ c. search rules)
     (λ c. search rules)
     (λ c. search rules)
