@@ -116,6 +116,22 @@ pub record BatchesInCodes : Type 0 where
         replicate 10 8,
         ask 100 ++ (9 ∷ []),
       )
+  -- where the position stays, the standing still says it
+  pub blames_in_place : batching_codes P1 (1 ∷ 0 ∷ []) (P_counts 442 1 0 1 0 0) (lent [] quit (replicate 10 8) [])
+      ≡ (
+        record {
+          used_device = 0;
+          used_host = 9;
+          written_to_device = 0;
+          written_to_host = 0;
+          last = record { outcome = 2; question = 0; party = 1; reason = 1; field = 0 };
+          reserved = 0 ∷ 0 ∷ 0 ∷ [];
+        },
+        1 ∷ 2 ∷ [],
+        P_counts 442 1 0 1 0 0,
+        replicate 10 8,
+        [],
+      )
   -- refused, with a standing of 7 left as it was
   pub refuses : batching_codes P1 (0 ∷ 7 ∷ []) (P_counts 442 0 0 0 0 0) (lent (ask 100) ok [] [])
       ≡ (

@@ -89,5 +89,6 @@ batches_in_codes =
     record {
       blames_device = refl;
       blames_host = refl;
+      blames_in_place = refl;
       refuses = refl;
     }
