@@ -1,5 +1,4 @@
-/* Sojimu: verified session monitoring, for C99 and C++11 or later on x86-64, which here means the System V ABI and ELF, and a
- * processor with SSE4.2 and POPCNT (x86-64-v2).
+/* Sojimu: verified session monitoring, for C99 and C++11 or later on x86-64, which here means the System V ABI and ELF.
  *
  * A protocol is a session type, as a device sees it. A gateway reads its text into a table once (sojimu_read), keeps one state of
  * 324 bytes for each conversation (sojimu_fresh), and asks of every message whether it may pass (sojimu_step), or of all that wait
