@@ -30,20 +30,18 @@ returns c =
 returns-2 : tie.Need-returns-in-Device
 unfolding counted_due due_at turn_answer
 returns-2 c =
-    let x = c in
-    let a = x.args in
+    let a = c.args in
     ap (cut a.device) c.first_length-n.ensures
     ∙ ap (λ o. due_at o a.device a.host)
-    (sym (ap turn_answer x.in-Of.is ∙ ap of_side c.in-Device.is) ∙ x.whose_turn-turn.ensures)
+    (sym (ap turn_answer c.in-Of.is ∙ ap of_side c.in-Device.is) ∙ c.whose_turn-turn.ensures)
 
 returns-3 : tie.Need-returns-in-Host
 unfolding counted_due due_at turn_answer
 returns-3 c =
-    let x = c in
-    let a = x.args in
+    let a = c.args in
     ap (cut a.host) c.first_length-n-in-Host.ensures
     ∙ ap (λ o. due_at o a.device a.host)
-    (sym (ap turn_answer x.in-Of.is ∙ ap of_side c.in-Host.is) ∙ x.whose_turn-turn.ensures)
+    (sym (ap turn_answer c.in-Of.is ∙ ap of_side c.in-Host.is) ∙ c.whose_turn-turn.ensures)
 
 pub due_spec : {M : Type 1} → statement M
 due_spec =

@@ -32,29 +32,24 @@ returns-2 c =
 
 judge-requires : tie.Need-judge-judged-requires
 judge-requires c κs =
-    let s = c in
-    (due_sound _ _ _ _ s.args.out.now s.requires.0, due_whole _ _ _ _ s.args.out.now s.requires.0 (texts-yes c.before) c.if-out-message.false)
+    (due_sound _ _ _ _ c.args.out.now c.requires.0, due_whole _ _ _ _ c.args.out.now c.requires.0 (texts-yes c.before) c.if-out-message.false)
 
 settle-requires : tie.Need-settle-requires
 settle-requires c κs =
-    let e = c in
-    let s = e in
-    let out = s.args.out.now in
-    let p = s.requires in
-    let w = due_whole _ _ _ _ out p.0 (texts-yes c.before.before.before.before) e.if-out-message.false in
-    settles _ _ _ _ _ _ (due_sound _ _ _ _ out p.0) p.1 (omega (arith, (whole_parts _ w).nine)) e.if-out-message.false
+    let out = c.args.out.now in
+    let p = c.requires in
+    let w = due_whole _ _ _ _ out p.0 (texts-yes c.before.before.before.before) c.if-out-message.false in
+    settles _ _ _ _ _ _ (due_sound _ _ _ _ out p.0) p.1 (omega (arith, (whole_parts _ w).nine)) c.if-out-message.false
     _ (λ b h. sym c.judge-judged.ensures.1 ∙ h)
 
 returns-3 : tie.Need-returns
 unfolding outcome
 returns-3 c =
-    let e = c in
-    let s = e in
     let x = c.settle.ensures in
     let j = c.judge-judged.ensures in (
-      x.0 ∙ sym (judged_as _ _ _ _ _ _ (due_yes _ _ _ _ s.args.out.now s.requires.0 (texts-yes c.before.before.before.before.before.before.before) e.if-out-message.false)
-          (due_judged _ _ _ _ s.args.out.now s.requires.0 ∙ sym j.0)),
-      x.1 ∙ settled_counted _ _ _ _ _ s.args.out.now _ (λ b h. sym j.1 ∙ h) _ (ap (λ (y : Outcome). y.verdict) x.0),
+      x.0 ∙ sym (judged_as _ _ _ _ _ _ (due_yes _ _ _ _ c.args.out.now c.requires.0 (texts-yes c.before.before.before.before.before.before.before) c.if-out-message.false)
+          (due_judged _ _ _ _ c.args.out.now c.requires.0 ∙ sym j.0)),
+      x.1 ∙ settled_counted _ _ _ _ _ c.args.out.now _ (λ b h. sym j.1 ∙ h) _ (ap (λ (y : Outcome). y.verdict) x.0),
     )
 
 pub heard_spec : {M : Type 1} → statement M

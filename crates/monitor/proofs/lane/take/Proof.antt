@@ -9,45 +9,40 @@ use Rattle.monitor.proofs.lane.take.Tie as tie
 returns : tie.Need-returns-then-n-eq0
 unfolding last_of
 returns c =
-    let s = c in
-    let a = s.args in
-    got_none _ _ _ _ a.bytes.now (lane_of a.lane a.out.now) s.requires.0 s.requires.2 _ c.first_length-n.ensures c.if-n-eq0.true
+    let a = c.args in
+    got_none _ _ _ _ a.bytes.now (lane_of a.lane a.out.now) c.requires.0 c.requires.2 _ c.first_length-n.ensures c.if-n-eq0.true
 
 slice-aggregate-heard : tie.Need-slice_bounds-heard-end
 slice-aggregate-heard c = cut_length _ _ c.first_length-n.ensures
 
 heard-requires : tie.Need-heard-x-requires
 heard-requires c κs =
-    let s = c in
-    let a = s.args in (
-      got_due _ _ a.c.now _ a.bytes.now (lane_of a.lane a.out.now) s.requires.0 s.requires.2 _ c.first_length-n.ensures c.if-n-eq0.false,
-      s.requires.1,
+    let a = c.args in (
+      got_due _ _ a.c.now _ a.bytes.now (lane_of a.lane a.out.now) c.requires.0 c.requires.2 _ c.first_length-n.ensures c.if-n-eq0.false,
+      c.requires.1,
     )
 
 add-t27 : tie.Need-overflow_add-after
 add-t27 c =
-    let s = c in
-    let a = s.args in
-    let h = got_used _ a.s a.c.now a.side a.bytes.now (lane_of a.lane a.out.now) s.requires.0 s.requires.2 _ c.first_length-n.ensures c.if-n-eq0.false _ _ c.heard-x.ensures.0 in
+    let a = c.args in
+    let h = got_used _ a.s a.c.now a.side a.bytes.now (lane_of a.lane a.out.now) c.requires.0 c.requires.2 _ c.first_length-n.ensures c.if-n-eq0.false _ _ c.heard-x.ensures.0 in
     omega (arith, h, c.used.ensures)
 
 add-t29 : tie.Need-overflow_add-after-2
 add-t29 c =
-    let s = c in
-    let a = s.args in
-    let h = got_written _ a.s a.c.now a.side a.bytes.now (lane_of a.lane a.out.now) s.requires.0 s.requires.2 _ c.first_length-n.ensures c.if-n-eq0.false _ _ c.heard-x.ensures.0 in
+    let a = c.args in
+    let h = got_written _ a.s a.c.now a.side a.bytes.now (lane_of a.lane a.out.now) c.requires.0 c.requires.2 _ c.first_length-n.ensures c.if-n-eq0.false _ _ c.heard-x.ensures.0 in
     omega (arith, h, c.written.ensures)
 
 returns-2 : tie.Need-returns
 unfolding last_of
 returns-2 c =
-    let s = c in
-    let a = s.args in
+    let a = c.args in
     let l = lane_of a.lane a.out.now in
     let n = c.first_length-n.ensures in
     let some = c.if-n-eq0.false in
     let x = c.heard-x.ensures in
-    got_one _ _ _ _ a.bytes.now l s.requires.0 s.requires.2 _ n some _ _ x.0 _ _ c.used.ensures c.written.ensures _ x.1
+    got_one _ _ _ _ a.bytes.now l c.requires.0 c.requires.2 _ n some _ _ x.0 _ _ c.used.ensures c.written.ensures _ x.1
 
 pub take_spec : {M : Type 1} → statement M
 take_spec =

@@ -30,14 +30,12 @@ counts-yes c = sym c.sound-2.ensures ∙ c.if-not-sound-2.false
 
 returns-4 : tie.Need-returns-then-not-is_running
 returns-4 c =
-    let b = c in
-    sym (not_running _ _ _ (yes c.before.before.before.before.before.before.before) b.if-t-position.false (counts-yes c.before.before)
+    sym (not_running _ _ _ (yes c.before.before.before.before.before.before.before) c.if-t-position.false (counts-yes c.before.before)
     (sym c.is_running.ensures ∙ c.if-not-is_running.true))
 
 returns-5 : tie.Need-returns
 returns-5 c =
-    let b = c in
-    sym (none_stops _ _ _ (yes c.before.before.before.before.before.before.before) b.if-t-position.false (counts-yes c.before.before)
+    sym (none_stops _ _ _ (yes c.before.before.before.before.before.before.before) c.if-t-position.false (counts-yes c.before.before)
     (sym c.is_running.ensures ∙ c.if-not-is_running.false))
 
 pub of_batch_spec : {M : Type 1} → statement M

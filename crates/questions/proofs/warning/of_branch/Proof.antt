@@ -45,8 +45,7 @@ table_sound c = (sound_parts _ _ (sound-9 c).0).0
 returns-3 : tie.Need-returns-then-t-branch
 unfolding notice_of
 returns-3 c =
-    let d = c in
-    let a = d.args in
+    let a = c.args in
     sym (warning_18 a.t.now a.s a.c.now a.branch (sound-9 c.before.before.before).0 (sound-9 c.before.before.before).1 c.if-t-branch.true)
 
 room : (c : tie.Else-t-branch) → branches_of c.args.t.now ≤ 128
@@ -99,13 +98,13 @@ is-far-requires c κs =
     (k.setting, k.share, k.few.selected, k.few.taken)
 
 add-sender : tie.Need-overflow_add-i-2
-add-sender c = let d = c in omega (arith, (known_at c.before.before.before.before.before.before.before).owner, few c.before.before.before.before.before.before.before)
+add-sender c = omega (arith, (known_at c.before.before.before.before.before.before.before).owner, few c.before.before.before.before.before.before.before)
 
 mul-sender : tie.Need-offset_bounds-t-i
-mul-sender c = let d = c in omega (arith, (known_at c.before.before.before.before.before.before.before).owner, few c.before.before.before.before.before.before.before)
+mul-sender c = omega (arith, (known_at c.before.before.before.before.before.before.before).owner, few c.before.before.before.before.before.before.before)
 
 element-copy-out-sender : tie.Need-bounds-t-i
-element-copy-out-sender c = let d = c in omega (arith, (known_at c.before.before.before.before.before.before.before).owner, few c.before.before.before.before.before.before.before)
+element-copy-out-sender c = omega (arith, (known_at c.before.before.before.before.before.before.before).owner, few c.before.before.before.before.before.before.before)
 
 sender-requires : tie.Need-sender-requires
 sender-requires c κs = (known_at c.before.before.before.before.before.before.before.before).choice
@@ -116,10 +115,9 @@ estimated-requires c κs = let k = known_at c.before.before.before.before.before
 returns-4 : tie.Need-returns
 unfolding notice_of
 returns-4 c =
-    let d = c in
-    let a = d.args in
+    let a = c.args in
     let e = sound-9 c.before.before.before.before.before.before.before.before.before.before.before.before.before in
-    warning_tells a.t.now a.s a.c.now a.branch e.0 e.1 d.if-t-branch.false _ _ _
+    warning_tells a.t.now a.s a.c.now a.branch e.0 e.1 c.if-t-branch.false _ _ _
     c.is_far-far.ensures c.sender.ensures c.estimated.ensures
 
 pub of_branch_spec : {M : Type 1} → statement M
