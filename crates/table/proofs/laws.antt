@@ -3,6 +3,7 @@ pub mod DualOf
 pub mod LegalField
 pub mod LegalLabel
 pub mod Lists
+pub mod Question
 pub mod SameSort
 pub mod Scans
 pub mod SharesRight

@@ -16,10 +16,8 @@ pub fn all_legal(t: &Table, n: usize) -> bool
         × ((k : ℕ) → k < n → Word (word_at t.now k)) }
 {
     let mut bad: u64 = 0;
-    let mut k: usize = 0;
-    while k < n {
-        bad = bad | bad_bytes(super::label(t, k));
-        k += 1;
+    for k in 0..n {
+        bad |= bad_bytes(super::label(t, k));
     }
     bad & HIGH_BITS == 0
 }
@@ -33,11 +31,10 @@ pub fn bad_bytes(w: u64) -> u64
     ensures { clear result ≡ legal_label (label_of w) }
 {
     let small = w | 0x0020_2020_2020_2020;
-    let letter = std::num::wrapping_add_u64(small, 0x3F1F_1F1F_1F1F_1F1F)
-        ^ std::num::wrapping_add_u64(small, 0x2505_0505_0505_0505);
-    let digit = std::num::wrapping_add_u64(w, 0x0050_5050_5050_5050)
-        ^ std::num::wrapping_add_u64(w, 0x0046_4646_4646_4646);
-    let some = std::num::wrapping_add_u64(w, 0x807F_7F7F_7F7F_7F7F);
+    let letter = small.wrapping_add(0x3F1F_1F1F_1F1F_1F1F)
+        ^ small.wrapping_add(0x2505_0505_0505_0505);
+    let digit = w.wrapping_add(0x0050_5050_5050_5050) ^ w.wrapping_add(0x0046_4646_4646_4646);
+    let some = w.wrapping_add(0x807F_7F7F_7F7F_7F7F);
     let other = !(letter ^ digit);
     w | (some & (other | (other >> 8)))
 }

@@ -4,17 +4,22 @@
 #![tactic(auto)]
 
 ghost use Rattle.std.specs.Prelude.{◌≡◌, ◌<◌};
-ghost use Rattle.table.specs.Table.{legal_label, legal_field, known_edition};
+ghost use Rattle.table.specs.Table.{legal_label, legal_field};
 ghost use Rattle.table.specs.View.{joined_label, word_at, label_of, regular_of, sound_of, sound_at, empty_table, opposite_of, turned, dual_of};
 ghost use Rattle.table.specs.inner.Scans.{Word};
 
 mod apart;
 mod branches;
+mod checked;
 mod letters;
+mod refusal;
 mod shares;
 mod states;
 
-#[derive(Clone, Copy)]
+pub use checked::Sound;
+pub use refusal::Question;
+
+#[derive(Clone, Copy, Debug, PartialEq, Eq)]
 pub enum Party {
     Device,
     Host,
@@ -57,22 +62,11 @@ pub const SHARE: usize = 2210;
 pub const EDITION: usize = 2338;
 
 // Question 9: is the table sound, do its shares keep their rules, and is its edition 1 or 2?
+#[tactic(auto, using(std::proofs::lemmas::Bool::Decides::nat_tests), unfolding(crate::specs::View::sound_of, crate::specs::Table::known_edition))]
 pub fn sound(t: &Table) -> bool
     ensures { result ≡ sound_of t.now }
 {
-    if !known_edition(t[EDITION]) {
-        return false;
-    }
-    regular(t)
-}
-
-fn known_edition(edition: u32) -> bool
-    ensures { result ≡ known_edition edition }
-{
-    if edition == 1 {
-        return true;
-    }
-    edition == 2
+    matches!(t[EDITION], 1 | 2) && regular(t)
 }
 
 // The states that are choices are those that own a branch.
@@ -81,51 +75,28 @@ fn regular(t: &Table) -> bool
 {
     let m = t[STATES];
     let n = t[BRANCHES];
-    if m == 0 {
+    if m == 0 || 32 < m || 128 < n {
         return false;
     }
-    if 32 < m {
+    let Some(choices) = states::choices(t, m as usize) else {
         return false;
-    }
-    if 128 < n {
+    };
+    let Some(owners) = branches::owners(t, n as usize, m) else {
         return false;
-    }
-    let choices = states::choices(t, m as usize);
-    if !choices.ok {
-        return false;
-    }
-    let owners = branches::owners(t, n as usize, m);
-    if !owners.ok {
-        return false;
-    }
-    if owners.set != choices.set {
-        return false;
-    }
-    if owners.shares == 0 {
-        return true;
-    }
-    shares::right(t, n as usize, m as usize)
+    };
+    owners.set == choices && (owners.shares == 0 || shares::right(t, n as usize, m as usize))
 }
 
 // Question 9 where a position is given: is it one of the table's states, too?
+#[tactic(auto, using(std::proofs::lemmas::Bool::Decides::nat_tests), unfolding(crate::specs::View::sound_at))]
 pub fn sound_at(t: &Table, position: u32) -> bool
     ensures { result ≡ sound_at t.now position }
 {
-    if !sound(t) {
-        return false;
-    }
-    position < t[STATES]
-}
-
-// What the pass over states finds: whether all is right, and then the set of the choices.
-#[derive(Clone, Copy)]
-struct Scan {
-    ok: bool,
-    set: u32,
+    sound(t) && position < t[STATES]
 }
 
 // The label of branch k.
-fn label(t: &Table, k: usize) -> u64
+pub fn label(t: &Table, k: usize) -> u64
     requires { k < 128 }
     ensures { (result ≡ word_at t.now k) × Word result }
 {
@@ -147,28 +118,20 @@ pub fn label_legal(w: u64) -> bool
 }
 
 // A range is not empty and keeps to its kind.
+#[tactic(auto, using(std::proofs::lemmas::Bool::Decides::nat_tests, crate::proofs::laws::LegalField::range_unknown), unfolding(crate::specs::Table::legal_field, crate::specs::Table::within_kind))]
 pub fn range_legal(kind: u32, low: u32, high: u32) -> bool
     ensures { result ≡ legal_field (record { kind = kind; low = low; high = high }) }
 {
-    if high < low {
-        return false;
-    }
-    if kind == 0 {
-        return true;
-    }
-    if low < 0x8000_0000 {
-        return false;
-    }
-    if kind == 1 {
-        return high <= 0x8000_0040;
-    }
-    if kind == 2 {
-        return high <= 0x8000_0001;
-    }
-    false
+    low <= high
+        && match kind {
+            0 => true,
+            1 => 0x8000_0000 <= low && high <= 0x8000_0040,
+            2 => 0x8000_0000 <= low && high <= 0x8000_0001,
+            _ => false,
+        }
 }
 
-// What the dual is given with: 0, or 9 and the empty table where the table is not sound.
+// What the dual is given with: 0, or 9 and the empty table where the table is not sound. No `Result`: C reads it as it is.
 #[repr(C)]
 #[derive(Drop)]
 pub struct Turned {
@@ -182,7 +145,7 @@ pub fn dual(t: &Table) -> Turned
 {
     if !sound(t) {
         return Turned {
-            question: 9,
+            question: u32::from(Question::Unsound),
             table: empty(),
         };
     }
@@ -198,28 +161,24 @@ pub fn dual(t: &Table) -> Turned
 fn turn(t: &mut Table)
     ensures { t.new ≡ turned t.old }
 {
-    let mut k: usize = 0;
-    while k < 32 {
-        let s = t[SORT + k];
-        let r = opposite_sort(s);
-        t[SORT + k] = r;
-        k += 1;
+    for k in 0..32 {
+        t[SORT + k] = opposite_sort(t[SORT + k]);
     }
 }
 
+#[tactic(auto, using(crate::proofs::laws::DualOf::opposite_same), unfolding(crate::specs::View::opposite_of))]
 fn opposite_sort(s: u32) -> u32
     ensures { result ≡ opposite_of s }
 {
-    if s == 1 {
-        return 2;
+    match s {
+        1 => 2,
+        2 => 1,
+        _ => s,
     }
-    if s == 2 {
-        return 1;
-    }
-    s
 }
 
 // The table that a refusal gives back.
+#[tactic(auto, unfolding(crate::specs::View::empty_table))]
 pub fn empty() -> Table
     ensures { result ≡ empty_table }
 {

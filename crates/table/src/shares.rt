@@ -1,10 +1,10 @@
 // The shares' part of question 9: each choice has none, or one for each branch, which add to 1000.
-ghost use Rattle.std.specs.Prelude.{◌≡◌, ◌<◌, ◌≤◌, slice_index};
+ghost use Rattle.std.specs.Prelude.{◌≡◌, ◌<◌, ◌≤◌, length, slice_index};
 ghost use Rattle.table.specs.Table.{shares_kept};
 ghost use Rattle.table.specs.View.{view};
 ghost use Rattle.table.specs.inner.Scans.{all, Owned, weight_of, right_sum};
 
-use super::Table;
+use super::{OWNER, SHARE, Table};
 
 // What a branch without a share adds: more than all shares together, so that no sum hides it.
 const NONE: u32 = 1048576;
@@ -16,19 +16,17 @@ pub fn right(t: &Table, n: usize, m: usize) -> bool
     ensures { result ≡ shares_kept (view t.now) }
 {
     let mut sums = [0u32; 32];
-    let mut k: usize = 0;
-    while k < n {
-        let share = t[super::SHARE + k];
+    for k in 0..n {
+        let share = t[SHARE + k];
         if 1000 < share {
             return false;
         }
-        let i = t[super::OWNER + k] as usize;
-        sums[i] = sums[i] + weight(share);
-        k += 1;
+        sums[t[OWNER + k] as usize] += weight(share);
     }
-    all_right(&sums, m)
+    all_right(&sums[..m])
 }
 
+#[tactic(auto, using(std::proofs::lemmas::Bool::Decides::nat_tests), unfolding(crate::specs::inner::Scans::weight_of))]
 fn weight(share: u32) -> u32
     requires { share ≤ 1000 }
     ensures { (result ≡ weight_of share) × (result ≤ 1048576) }
@@ -36,20 +34,14 @@ fn weight(share: u32) -> u32
     if share == 0 { NONE } else { share }
 }
 
-// Whether each of the first m sums is that of no shares, or of 1000 in all.
-fn all_right(sums: &[u32; 32], m: usize) -> bool
-    requires { m ≤ 32 }
-    ensures { result ≡ all m (λ i. right_sum (slice_index sums.now i)) }
+// Whether each sum is that of no shares, or of 1000 in all.
+fn all_right(sums: &[u32]) -> bool
+    ensures { result ≡ all (length sums.now) (λ i. right_sum (slice_index sums.now i)) }
 {
-    let mut i: usize = 0;
-    while i < m {
-        let sum = sums[i];
-        if sum % NONE != 0 {
-            if sum != 1000 {
-                return false;
-            }
+    for sum in sums {
+        if *sum % NONE != 0 && *sum != 1000 {
+            return false;
         }
-        i += 1;
     }
     true
 }

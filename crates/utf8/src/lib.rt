@@ -2,19 +2,19 @@
 #![tactic(auto)]
 
 ghost use Rattle.std.specs.Prelude.{◌≡◌, true, ◌+◌, ◌≤◌, ◌<◌, length, get_or};
-ghost use Rattle.utf8.specs.Utf8.{is_utf8, within, ◌to◌};
-ghost use Rattle.utf8.specs.inner.Characters.{is_ascii, Ascii, AsciiTo, Width, char_size, second, low_first};
+ghost use Rattle.utf8.specs.Utf8.{is_utf8, within, utf8_tail};
+ghost use Rattle.utf8.specs.inner.Characters.{is_ascii, Ascii, AsciiTo, Width, char_size, second};
 
 // Whether the bytes are well-formed UTF-8: a word at a time behind an ASCII byte, else one character after another.
 pub fn is_utf8(bytes: &[u8]) -> bool
     ensures { result ≡ is_utf8 bytes.now }
 {
     let mut i = ascii(bytes, 0);
+    // no `for`: a step is as long as the character
     while i < bytes.len() {
-        let n = width(bytes, i);
-        if n == 0 {
+        let Some(n) = width(bytes, i) else {
             return false;
-        }
+        };
         i += n;
         if n == 1 {
             i = ascii(bytes, i);
@@ -28,31 +28,30 @@ pub fn is_ascii(bytes: &[u8]) -> bool
     ensures { result ≡ is_ascii bytes.now }
 {
     let from = blocks(bytes);
-    let end = ascii(bytes, from);
-    end == bytes.len()
+    ascii(bytes, from) == bytes.len()
 }
 
 // How far ASCII goes from the front, by blocks of four words.
 fn blocks(bytes: &[u8]) -> usize
     ensures { Ascii bytes.now 0 result }
 {
-    let mut i: usize = 0;
-    while 32 <= bytes.len() - i {
-        if !block(bytes, i) {
-            return i;
+    let mut i = 0;
+    for part in bytes.chunks_exact(32) {
+        if !block(part) {
+            break;
         }
         i += 32;
     }
     i
 }
 
-// Whether four words at a place are ASCII, by one test.
-fn block(bytes: &[u8], at: usize) -> bool
-    requires { at + 32 ≤ length bytes.now }
-    ensures { result ≡ true → Ascii bytes.now at (at + 32) }
+// Whether four words are ASCII, by one test.
+fn block(bytes: &[u8]) -> bool
+    requires { length bytes.now ≡ 32 }
+    ensures { result ≡ true → Ascii bytes.now 0 32 }
 {
-    let front = high(bytes, at) | high(bytes, at + 8);
-    let back = high(bytes, at + 16) | high(bytes, at + 24);
+    let front = high(bytes, 0) | high(bytes, 8);
+    let back = high(bytes, 16) | high(bytes, 24);
     front | back == 0
 }
 
@@ -62,7 +61,8 @@ fn ascii(bytes: &[u8], from: usize) -> usize
     ensures { AsciiTo bytes.now from result }
 {
     let mut i = from;
-    while 8 <= bytes.len() - i {
+    // no `for`: it goes on from the place where it stops, which any form counts
+    while bytes.len() - i >= 8 {
         if high(bytes, i) != 0 {
             return letters(bytes, i);
         }
@@ -76,102 +76,70 @@ fn letters(bytes: &[u8], from: usize) -> usize
     requires { from ≤ length bytes.now }
     ensures { AsciiTo bytes.now from result }
 {
-    let mut i = from;
-    while i < bytes.len() {
-        if 0x80 <= bytes[i] {
+    for i in from..bytes.len() {
+        if !bytes[i].is_ascii() {
             return i;
         }
-        i += 1;
     }
-    i
+    bytes.len()
 }
 
-// The high bits of the word of eight bytes at a place.
+// The high bits of the word of eight bytes at a place: as the machine loads it, so that no byte is moved.
 fn high(bytes: &[u8], at: usize) -> u64
     requires { at + 8 ≤ length bytes.now }
     ensures { result ≡ 0 → Ascii bytes.now at (at + 8) }
 {
-    let w = word(bytes, at) + word(bytes, at + 4) * 4294967296;
-    w & 0x8080_8080_8080_8080
+    let word = u64::from_le_bytes(<[u8; 8]>::try_from(&bytes[at..at + 8]).unwrap());
+    word & 0x8080_8080_8080_8080
 }
 
-// Four bytes as one number, low byte first: as the machine loads them, so that no byte is moved.
-fn word(bytes: &[u8], at: usize) -> u64
-    requires { at + 4 ≤ length bytes.now }
-    ensures { (result ≡ low_first bytes.now at) × (result < 4294967296) }
-{
-    ((bytes[at + 3] as u64 * 256 + bytes[at + 2] as u64) * 256 + bytes[at + 1] as u64) * 256
-        + bytes[at] as u64
-}
-
-// The length of the character at a place; 0 where none stands there.
-fn width(bytes: &[u8], at: usize) -> usize
+// The length of the character at a place, if one stands there.
+#[tactic(auto, using(std::proofs::lemmas::Bool::Decides::nat_tests, crate::proofs::laws::Characters::width_one, crate::proofs::laws::Characters::width_none), unfolding(crate::specs::inner::Characters::char_size))]
+fn width(bytes: &[u8], at: usize) -> Option<usize>
     requires { at < length bytes.now }
     ensures { Width bytes.now at result }
 {
-    let a = bytes[at];
-    if a < 0x80 {
-        return 1;
+    match bytes[at] {
+        0..=0x7F => Some(1),
+        0xC2..=0xDF => longer(bytes, at, 2),
+        0xE0..=0xEF => longer(bytes, at, 3),
+        0xF0..=0xF4 => longer(bytes, at, 4),
+        _ => None,
     }
-    if a < 0xC2 {
-        return 0;
-    }
-    if a < 0xE0 {
-        return longer(bytes, at, 2);
-    }
-    if a < 0xF0 {
-        return longer(bytes, at, 3);
-    }
-    if a < 0xF5 {
-        return longer(bytes, at, 4);
-    }
-    0
 }
 
 // The same behind a lead that announces n bytes, at least two. Each call names its n, so the compiler makes a function for each.
-fn longer(bytes: &[u8], at: usize, n: usize) -> usize
+fn longer(bytes: &[u8], at: usize, n: usize) -> Option<usize>
     requires { (at < length bytes.now) × (char_size (get_or bytes.now at 0) ≡ n) × (2 ≤ n) }
     ensures { Width bytes.now at result }
 {
     if bytes.len() - at < n {
-        return 0;
+        return None;
     }
-    if !second(bytes[at], bytes[at + 1]) {
-        return 0;
-    }
-    if n == 2 {
-        return 2;
-    }
-    if !within(0x80, 0xBF, bytes[at + 2]) {
-        return 0;
-    }
-    if n == 3 {
-        return 3;
-    }
-    if !within(0x80, 0xBF, bytes[at + 3]) {
-        return 0;
-    }
-    4
+    let whole = second(bytes[at], bytes[at + 1])
+        && (n < 3 || tail(bytes[at + 2]))
+        && (n < 4 || tail(bytes[at + 3]));
+    whole.then_some(n)
 }
 
 // Whether byte b may follow the lead a.
+#[tactic(auto, using(std::proofs::lemmas::Bool::Decides::nat_tests), unfolding(crate::specs::Utf8::within, crate::specs::inner::Characters::second))]
 fn second(a: u8, b: u8) -> bool
     ensures { result ≡ within (second a) b }
 {
     match a {
-        0xE0 => within(0xA0, 0xBF, b),
-        0xED => within(0x80, 0x9F, b),
-        0xF0 => within(0x90, 0xBF, b),
-        0xF4 => within(0x80, 0x8F, b),
-        _ => within(0x80, 0xBF, b),
+        0xE0 => matches!(b, 0xA0..=0xBF),
+        0xED => matches!(b, 0x80..=0x9F),
+        0xF0 => matches!(b, 0x90..=0xBF),
+        0xF4 => matches!(b, 0x80..=0x8F),
+        _ => tail(b),
     }
 }
 
-fn within(low: u8, high: u8, b: u8) -> bool
-    ensures { result ≡ within (low to high) b }
+// Whether byte b may follow those two.
+#[tactic(auto, using(std::proofs::lemmas::Bool::Decides::nat_tests), unfolding(crate::specs::Utf8::within))]
+fn tail(b: u8) -> bool
+    ensures { result ≡ within utf8_tail b }
 {
-    if b < low {
-        return false;
-    }
-    b <= high
+    matches!(b, 0x80..=0xBF)
 }

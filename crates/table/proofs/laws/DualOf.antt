@@ -8,6 +8,14 @@ use Rattle.table.specs.Table.{is_choice, legal_label, legal_field, legal_branch,
 use Rattle.table.specs.View.{states_of, branches_of, sort_at, owner_at, target_at, count_at, word_at, field_at, label_of, share_at, edition_of, branch_at, view, known, regular_of, sound_of, sort_of, opposites, turned_to, turned, opposite_of}
 use Rattle.table.specs.Table as T
 
+-- other codes stay
+pub opposite_same : (n : ℕ) → (n ≡ 1 → ⊥) → (n ≡ 2 → ⊥) → opposite_of n ≡ n
+unfolding opposite_of
+opposite_same zero a b = refl
+opposite_same (suc zero) a b = absurd (a refl)
+opposite_same (suc (suc zero)) a b = absurd (b refl)
+opposite_same (suc (suc (suc n))) a b = refl
+
 opposite_code_twice : (n : ℕ) → opposite_of (opposite_of n) ≡ n
 unfolding opposite_of
 opposite_code_twice zero = refl

@@ -7,10 +7,6 @@ use Rattle.table.specs.View.{sort_at, owner_at}
 use Rattle.table.specs.inner.Scans.{all, Members, Choices}
 use Rattle.table.proofs.laws.Lists.{all_by}
 
--- the loop is over
-pub members_end : {t : List ℕ} {i n s : ℕ} → Members t i s → i ≡ n → Members t n s
-members_end {t} {s} m e = subst (λ n. Members t n s) e m
-
 module _ (t : List ℕ) where
   pub members_none : Members t 0 0
   members_none = record {

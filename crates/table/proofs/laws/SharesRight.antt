@@ -1,6 +1,7 @@
 -- The shares' part of question 9: what the passes say of sums is what the definitions say of each choice.
 -- Assumes nothing.
-use Rattle.std.proofs.Common.{◌≡◌, ℕ, zero, suc, ◌+◌, ◌*◌, ◌%◌, ◌<◌, ◌≤◌, Bool, true, false, cond, not, ◌&&◌, ◌||◌, eqb, leb, List, [], ◌∷◌, length, get_or, set, replicate, sym, refl, ap, ◌∙◌, subst, ap₂, ⊎_elim, zero-le, not-suc-le-zero, add-zero, mul-suc, add-one, arith, length-set, get_or-set_other, get_or-set_same, eq-eqb, ne_eqb, eqb-true, le-leb, leb-true}
+use Rattle.std.proofs.Common.{◌≡◌, ℕ, zero, suc, ◌+◌, ◌*◌, ◌%◌, ◌<◌, ◌≤◌, Bool, true, false, cond, not, ◌&&◌, ◌||◌, eqb, leb, List, [], ◌∷◌, length, get_or, take, set, replicate, sym, refl, ap, ◌∙◌, subst, ap₂, ⊎_elim, zero-le, not-suc-le-zero, add-zero, mul-suc, add-one, arith, length-set, get_or-set_other, get_or-set_same, eq-eqb, ne_eqb, eqb-true, le-leb, leb-true}
+use Rattle.std.proofs.lemmas.List.{length-take-le, get_or-take}
 use lib.ListN.{length-replicate, get_or-replicate}
 use lib.Bits.{bit_or, or_add_and, and_le_l, and_le_r}
 use Rattle.bits.proofs.laws.Digits.{lt_or_ge, same_or}
@@ -332,10 +333,13 @@ module _ (t sums : List ℕ) (k : ℕ) (s : Summed t sums k) where
         adds = adds_more t sums (λ j. weight_of (share_at t j)) k s.adds b v e;
       }
 
-  -- the pass is over
-  pub summed_all : (n m : ℕ) → Owned t n m → k ≡ n → {b : Bool} → b ≡ all m (λ i. right_sum (get_or sums i 0)) → b ≡ shares_kept (view t)
+  -- the pass is over: of the 32 sums the first m are asked
+  pub summed_all : (n m : ℕ) → Owned t n m → k ≡ n → {b : Bool} → b ≡ all (length (take m sums)) (λ i. right_sum (get_or (take m sums) i 0))
+      → b ≡ shares_kept (view t)
   summed_all n m o q e =
-      e ∙ all_same (λ i. right_sum (get_or sums i 0)) (λ i. right_sum (weights t i k)) m (λ i l. ap right_sum (s.adds.each i (omega (arith, o.few, o.states))))
+      e ∙ ap (λ j. all j (λ i. right_sum (get_or (take m sums) i 0))) (length-take-le m sums (omega (arith, o.few, o.states, s.adds.size)))
+      ∙ all_same (λ i. right_sum (get_or (take m sums) i 0)) (λ i. right_sum (weights t i k)) m
+      (λ i l. ap right_sum (get_or-take m sums i 0 l ∙ s.adds.each i (omega (arith, o.few, o.states))))
       ∙ ap (λ b. b && all m (λ i. right_sum (weights t i k))) s.small
       ∙ ap (λ n. all n (λ j. leb (share_at t j) 1000) && all m (λ i. right_sum (weights t i n))) q
       ∙ sums_kept t n o

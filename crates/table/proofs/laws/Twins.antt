@@ -1,11 +1,11 @@
 -- Twins, and the filter that tells branches apart.
 -- Assumes nothing.
-use Rattle.std.proofs.Common.{◌≡◌, ℕ, ◌+◌, ◌*◌, ◌/◌, ◌%◌, ◌<◌, ◌≤◌, Bool, true, not, ◌&&◌, eqb, List, length, get_or, set, sym, ap, ◌∙◌, ap₂, ⊎_elim, not-suc-le-zero, arith, length-set, get_or-set_other, get_or-set_same, eq-eqb, eqb-true}
+use Rattle.std.proofs.Common.{◌≡◌, ℕ, ◌+◌, ◌/◌, ◌%◌, ◌<◌, ◌≤◌, Bool, true, not, ◌&&◌, eqb, List, length, get_or, set, sym, ap, ◌∙◌, ap₂, ⊎_elim, not-suc-le-zero, arith, length-set, get_or-set_other, get_or-set_same, eqb-true}
 use Rattle.bits.specs.Digits.{digit, With}
 use Rattle.bits.proofs.laws.Digits.{with_same, lt_or_ge, same_or}
 use Rattle.table.specs.View.{owner_at, word_at}
 use Rattle.table.specs.inner.Scans.{twins, no_twin, mark_of}
-use Rattle.table.proofs.laws.Lists.{alike, both, join, all_by, refuted}
+use Rattle.table.proofs.laws.Lists.{both, all_by, refuted}
 
 -- mark m is in the filter
 unfoldable pub marked : List ℕ → ℕ → ℕ
@@ -14,19 +14,6 @@ marked seen m = digit (get_or seen (m / 32) 0) (m % 32)
 pub mark_below : (o l : ℕ) → mark_of o l < 4096
 unfolding mark_of
 mark_below o l = omega arith
-
--- two words are one label's exactly where both halves are the same
-pub same_word : (a b c d : ℕ) → b < 4294967296 → d < 4294967296 → (eqb a c && eqb b d) ≡ eqb (a * 4294967296 + b) (c * 4294967296 + d)
-same_word a b c d l m =
-    alike (eqb a c && eqb b d) (eqb (a * 4294967296 + b) (c * 4294967296 + d))
-    (λ e.
-    let h = both (eqb a c) (eqb b d) e in
-    let p = eqb-true a c h.0 in
-    let q = eqb-true b d h.1 in
-    eq-eqb (a * 4294967296 + b) (c * 4294967296 + d) (omega arith))
-    (λ e.
-    let h = eqb-true (a * 4294967296 + b) (c * 4294967296 + d) e in
-    join (eq-eqb a c (omega arith)) (eq-eqb b d (omega arith)))
 
 pub twins_are : (t : List ℕ) (i j : ℕ) {b : Bool} → b ≡ eqb (word_at t j) (word_at t i) → twins t i j ≡ (eqb (owner_at t j) (owner_at t i) && b)
 unfolding twins

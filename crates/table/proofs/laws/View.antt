@@ -3,14 +3,15 @@
 use Rattle.std.proofs.Common.{◌≡◌, ℕ, zero, suc, ◌+◌, ◌*◌, ◌/◌, ◌^◌, ◌<◌, ◌≤◌, Bool, true, false, not, ◌&&◌, ◌||◌, eqb, ltb, leb, ◌⊎◌, List, [], ◌∷◌, length, get_or, sym, refl, ap, ◌∙◌, subst, ap₂, inl, inr, ⊎_elim, suc-le-suc, zero-le, le_of_suc-le-suc, not-suc-le-zero, add-zero, pow-suc, arith, ltb-true, lt-ltb, eq-eqb, eqb-true, le-leb, leb-true}
 use mathlib.Core.Bool.{false≢true}
 use borrow.Author.Tests.{not-true}
+use Rattle.std.specs.Prelude.{Option, Some, None}
 use Rattle.bits.specs.Digits.{digit}
 use Rattle.bits.proofs.laws.Digits.{digit_le, same_digits, lt_or_ge}
 use Rattle.table.specs.declared.branches.Passed.{Passed}
 use Rattle.table.specs.Lists.{every, some_one, upto, same, matched}
 use Rattle.table.specs.Table.{is_choice, legal_label, legal_field, legal_branch, clash, labels_differ, choices_own}
 use Rattle.table.specs.View.{states_of, branches_of, sort_at, owner_at, target_at, count_at, word_at, label_of, sort_of, field_at, edition_of, branch_at, view, known, regular_of, sound_of}
-use Rattle.table.specs.inner.Scans.{all, no_twin, twins, legal_at, in_place, in_order, Word, Members, PassedBranches, Choices}
-use Rattle.table.proofs.laws.Lists.{never, both, join, or_right, implied, implies, refuted, alike, all_at, all_by, all_both, upto_length, every_upto, upto_every}
+use Rattle.table.specs.inner.Scans.{all, no_twin, twins, legal_at, in_place, in_order, named, Word, Members, PassedLabels, PassedPlaces, PassedBranches, InOrder, Choices}
+use Rattle.table.proofs.laws.Lists.{never, both, join, left_fails, right_fails, or_right, implied, implies, refuted, alike, all_at, all_by, all_both, upto_length, every_upto, upto_every}
 use Rattle.table.proofs.laws.LegalLabel.{byte, label_bytes}
 use Rattle.table.specs.Table as T
 
@@ -406,63 +407,34 @@ module _ (t : List ℕ) (m k : ℕ) where
       let r = both o g q.0 in
       (ltb-true (owner_at t k) m r.0, ltb-true (target_at t k) m r.1, leb-true (count_at t k) 4 q.1, p.1)
 
-  pub in_place_no : (m ≤ owner_at t k) ⊎ ((m ≤ target_at t k) ⊎ (4 < count_at t k)) → in_place t m k ≡ false
-  in_place_no h =
-      refuted (in_place t m k)
-      (λ e.
-      let p = in_place_parts e in
-      ⊎_elim (λ (x : m ≤ owner_at t k). omega (arith, p.0)) (λ y. ⊎_elim (λ (x : m ≤ target_at t k). omega (arith, p.1)) (λ (x : 4 < count_at t k). omega (arith, p.2)) y) h)
-
   pub in_order_parts : in_order t m k ≡ true → (in_place t m k ≡ true) × (legal_label (label_of (word_at t k)) ≡ true) × (no_twin t k ≡ true)
-  unfolding in_order
+  unfolding in_order named
   in_order_parts e =
-      let p = both (in_place t m k && legal_label (label_of (word_at t k))) (no_twin t k) e in
-      let q = both (in_place t m k) (legal_label (label_of (word_at t k))) p.0 in
-      (q.0, q.1, p.1)
+      let p = both (in_place t m k) (named t k) e in
+      let q = both (legal_label (label_of (word_at t k))) (no_twin t k) p.1 in
+      (p.0, q.0, q.1)
 
   pub in_order_by : in_place t m k ≡ true → legal_label (label_of (word_at t k)) ≡ true → no_twin t k ≡ true → in_order t m k ≡ true
-  unfolding in_order
-  in_order_by a b c = join (join a b) c
+  unfolding in_order named
+  in_order_by a b c = join a (join b c)
 
--- a pass for each matter
-module _ (t : List ℕ) (n m : ℕ) where
-  split : all n (in_order t m) ≡ (all n (in_place t m) && all n (λ k. legal_label (label_of (word_at t k))) && all n (no_twin t))
-  unfolding in_order
-  split =
-      all_both (λ k. in_place t m k && legal_label (label_of (word_at t k))) (no_twin t) n
-      ∙ ap (λ b. b && all n (no_twin t)) (all_both (in_place t m) (λ k. legal_label (label_of (word_at t k))) n)
+-- places and labels, each by passes of its own
+module _ (t : List ℕ) (n : ℕ) where
+  pub labels_many : {a b : Bool} → a ≡ all n (λ k. legal_label (label_of (word_at t k))) → b ≡ all n (no_twin t) → (a && b) ≡ all n (named t)
+  unfolding named
+  labels_many e f = ap₂ ◌&&◌ e f ∙ sym (all_both (λ k. legal_label (label_of (word_at t k))) (no_twin t) n)
 
-  pub passed_places : {b : Bool} → b ≡ all n (in_place t m) → all n (λ k. legal_label (label_of (word_at t k))) ≡ true → all n (no_twin t) ≡ true
-      → b ≡ all n (in_order t m)
-  passed_places {b} e p q = e ∙ sym (split ∙ ap₂ (λ x y. all n (in_place t m) && x && y) p q ∙ and_true (all n (in_place t m)))
-    where
-      and_true : (a : Bool) → (a && true && true) ≡ a
-      and_true true = refl
-      and_true false = refl
+  module _ (m : ℕ) where
+    split : all n (in_order t m) ≡ (all n (in_place t m) && all n (named t))
+    unfolding in_order
+    split = all_both (in_place t m) (named t) n
 
-  -- a pass that stopped
-  module _ (r : Passed) (wrong : r ≡ record { ok = false; set = 0; shares = 0 }) where
-    stopped_all : (all n (in_order t m) ≡ true → ⊥) → PassedBranches t n m r
-    stopped_all h =
-        let no = ap (λ (r : Passed). r.ok) wrong in
-        record {
-          tells = no ∙ sym (refuted (all n (in_order t m)) h);
-          owners = λ e. never e no;
-          shares = λ e. never e no;
-          words = λ e. never e no;
-        }
+    pub unnamed : PassedLabels t n false → PassedBranches t n m None
+    unnamed p = split ∙ right_fails (all n (in_place t m)) (sym p.tells)
 
-    -- at one branch
-    pub stopped : (k : ℕ) → k < n → (in_order t m k ≡ true → ⊥) → PassedBranches t n m r
-    stopped k l h = stopped_all (λ e. h (all_at (in_order t m) n e k l))
-
-    -- at one pass
-    pub stopped_label : all n (λ k. legal_label (label_of (word_at t k))) ≡ false → PassedBranches t n m r
-    stopped_label e =
-        stopped_all (λ h. never (all_by (λ k. legal_label (label_of (word_at t k))) n (λ k l. (in_order_parts t m k (all_at (in_order t m) n h k l)).1)) e)
-
-    pub stopped_twin : all n (no_twin t) ≡ false → PassedBranches t n m r
-    stopped_twin e = stopped_all (λ h. never (all_by (no_twin t) n (λ k l. (in_order_parts t m k (all_at (in_order t m) n h k l)).2)) e)
+    pub placed : (r : Option Passed) → PassedPlaces t n m r → PassedLabels t n true → PassedBranches t n m r
+    placed None e p = split ∙ left_fails (all n (named t)) e
+    placed (Some r) e p = record { tells = split ∙ join e.0 (sym p.tells); owners = e.1; shares = e.2; words = p.words refl }
 
 pub codes_all : (t : List ℕ) → Facts t → all (states_of t) (λ k. leb (sort_at t k) 2) ≡ true
 codes_all t f = all_by (λ k. leb (sort_at t k) 2) (states_of t) (λ k l. le-leb (sort_at t k) 2 (f.codes k l))
@@ -474,23 +446,22 @@ order_all t f =
     (in_place_rest t (states_of t) k (f.owners k l) (f.targets k l) (f.counts k l) ∙ all_by (λ i. legal_at t (4 * k + i)) (count_at t k) (f.ranges k l))
     (f.labels k l) (all_at (no_twin t) (branches_of t) (differ_alone t f) k l))
 
-pub owners_below : (t : List ℕ) (n m : ℕ) (r : Passed) → PassedBranches t n m r → r.ok ≡ true → (k : ℕ) → k < n → owner_at t k < m
-owners_below t n m r p ok k l =
-    (in_place_parts t m k (in_order_parts t m k (all_at (in_order t m) n (sym p.tells ∙ ok) k l)).0).0
+pub owners_below : (t : List ℕ) (n m : ℕ) (r : Passed) → InOrder t n m r → (k : ℕ) → k < n → owner_at t k < m
+owners_below t n m r p k l = (in_place_parts t m k (in_order_parts t m k (all_at (in_order t m) n p.tells k l)).0).0
 
 -- where states and branches are in order, the two sets and the shares are left to ask
 pub passed : (t : List ℕ) (r : Passed) (c : ℕ)
     → (states_of t ≡ 0 → ⊥) → states_of t ≤ 32 → branches_of t ≤ 128
     → all (states_of t) (λ k. leb (sort_at t k) 2) ≡ true → Choices t (states_of t) c
-    → PassedBranches t (branches_of t) (states_of t) r → r.ok ≡ true
+    → InOrder t (branches_of t) (states_of t) r
     → regular_of t ≡ (eqb r.set c && T.shares_kept (view t))
 unfolding regular_of
-passed t r c some few room codes s p ok =
+passed t r c some few room codes s p =
     ap (λ b. b && T.shares_kept (view t))
-    (alike (known t && T.sound (view t)) (eqb r.set c) (λ h. eq-eqb r.set c (facts_sets t r.set c (p.owners ok) s (facts t h))) sound)
+    (alike (known t && T.sound (view t)) (eqb r.set c) (λ h. eq-eqb r.set c (facts_sets t r.set c p.owners s (facts t h))) sound)
   where
     at : (k : ℕ) → k < branches_of t → (in_place t (states_of t) k ≡ true) × (legal_label (label_of (word_at t k)) ≡ true) × (no_twin t k ≡ true)
-    at k l = in_order_parts t (states_of t) k (all_at (in_order t (states_of t)) (branches_of t) (sym p.tells ∙ ok) k l)
+    at k l = in_order_parts t (states_of t) k (all_at (in_order t (states_of t)) (branches_of t) p.tells k l)
 
     place : (k : ℕ) → k < branches_of t
         → (owner_at t k < states_of t) × (target_at t k < states_of t) × (count_at t k ≤ 4) × (all (count_at t k) (λ f. legal_at t (4 * k + f)) ≡ true)
@@ -503,8 +474,8 @@ passed t r c some few room codes s p ok =
     sound : eqb r.set c ≡ true → (known t && T.sound (view t)) ≡ true
     sound h =
         let e = eqb-true r.set c h in
-        let below = owners_below t (branches_of t) (states_of t) r p ok in
-        facts_sound t (p.words ok) (record {
+        let below = owners_below t (branches_of t) (states_of t) r p in
+        facts_sound t p.words (record {
           some = least (states_of t) some;
           few = few;
           room = room;
@@ -514,7 +485,7 @@ passed t r c some few room codes s p ok =
           counts = λ k l. (place k l).2;
           labels = λ k l. (at k l).1;
           ranges = λ k l. all_at (λ f. legal_at t (4 * k + f)) (count_at t k) (place k l).3;
-          no_end = sets_no_end t r.set c (p.owners ok) s e below;
-          own = sets_own t r.set c (p.owners ok) s e below;
+          no_end = sets_no_end t r.set c p.owners s e below;
+          own = sets_own t r.set c p.owners s e below;
           differ = alone_differ t (all_by (no_twin t) (branches_of t) (λ k l. (at k l).2));
         })

@@ -1,24 +1,32 @@
 -- Characters by their places in the bytes, and eight ASCII bytes in one word. Assumes nothing.
 use mathlib.Core.Path.{◌≡◌, refl, sym, ap, ap₂, subst, ◌∙◌}
 use mathlib.Core.Logic.{⊎_elim}
-use mathlib.Core.Bool.{Bool, true, false, ◌&&◌}
-use mathlib.Core.List.{List, [], ◌∷◌}
+use mathlib.Core.Bool.{Bool, true, false, ◌&&◌, ◌||◌}
+use mathlib.Core.List.{List, [], ◌∷◌, ◌++◌}
 use Prim.Native.Nat.{ℕ, zero, suc, ◌+◌, ◌-◌, ◌*◌, ◌/◌, ◌%◌, ◌≤◌, ◌<◌}
 use native.Mathlib.Nat.{not-suc-le-zero, le_of_suc-le-suc, add-zero, mod-eq_of_lt}
 use native.Mathlib.Numerals.{add-one}
 use native.Mathlib.Omega.{arith}
-use lib.ListN.{length, get_or, take, drop, length-drop, drop_of_length-le}
-use lib.Seq.{drop-cons}
-use lib.Dec.{lit<, eqb}
-use borrow.Author.Tests.{eq-eqb, ne_eqb}
+use lib.ListN.{length, get_or, take, drop, length-drop, length-append, get_or-append, drop_of_length-le}
+use lib.Seq.{drop-cons, get_or-take, get_or-drop, drop-append_seam, drop-drop}
+use lib.Dec.{lit<, eqb, ltb}
+use borrow.Author.Tests.{eq-eqb, ne_eqb, lt-ltb, le-ltb}
 use lib.Bits.{bit_and, bit_or, and_block, and_high, and_le_l, and_le_r, or_add_and}
+use Rattle.std.specs.Prelude.{Some, None}
+use Rattle.std.specs.Bool.{then_some}
+use Rattle.std.specs.Int.{w64, from_le_bytes}
 use Rattle.utf8.specs.Utf8.{Range, ◌to◌, utf8_tail, within, octets, is_utf8}
-use Rattle.utf8.specs.inner.Characters.{char_size, second, low_first, is_ascii, WholeChars, Ascii, AsciiTo, Width}
-use Rattle.utf8.proofs.laws.Utf8.{inside, above, both, within_says, tails, due, lead, no_lead, lead_one, lt_or_ge}
+use Rattle.utf8.specs.inner.Characters.{char_size, second, is_ascii, WholeChars, Ascii, AsciiTo, Width}
+use Rattle.utf8.proofs.laws.Utf8.{inside, above, both, within_says, tails, due, lead, no_lead, lead_one, lt_or_ge, size_most}
 
 fails : (t : Bool) {u : Bool} → u ≡ false → (t && u) ≡ false
 fails true e = e
 fails false e = refl
+
+and_all : (a b c x t : Bool) → t ≡ (a && b && c) → (a && (b && (c && x))) ≡ (t && x)
+and_all true true c x t e = ap (λ u. u && x) (sym e)
+and_all true false c x t e = ap (λ u. u && x) (sym e)
+and_all false b c x t e = ap (λ u. u && x) (sym e)
 
 -- too few bytes for what is due
 cut : (rs : List Range) (bs : List ℕ) → length bs < length rs → octets rs bs ≡ false
@@ -73,6 +81,11 @@ all_low f small (suc n) e i l =
     let p = high_bits (horner f n) (mask n) (f n) (small n) e in
     ⊎_elim (λ (m : i < n). all_low f small n p.0 i m) (λ (m : n ≤ i). let q : i ≡ n = omega arith in rw q p.1) (lt_or_ge i n)
 
+-- eight bytes, the last of them highest
+word : (s : List ℕ) → from_le_bytes w64 s ≡ horner (λ i. get_or s (7 - i) 0) 8
+unfolding horner
+word s = omega arith
+
 module _ (bs : List ℕ) where
   abbrev at : ℕ → ℕ
   at k = get_or bs k 0
@@ -91,29 +104,23 @@ module _ (bs : List ℕ) where
   unfolding is_utf8
   begun k n l e = ap (octets []) (from k l) ∙ lead (at k) (drop (k + 1) bs) n e
 
-  no : (k : ℕ) → is_utf8 (drop k bs) ≡ false → Width bs k 0
-  no k e = record { whole = λ h. absurd (not-suc-le-zero h); broken = λ q. e }
-
-  yes : (k n : ℕ) → 0 < n → k + n ≤ length bs → is_utf8 (drop k bs) ≡ is_utf8 (drop (k + n) bs) → Width bs k n
-  yes k n p l e = record {
-    whole = λ h. record { onward = omega arith; inside = l; same = e };
-    broken = λ q. absurd (omega arith);
-  }
+  yes : (k n : ℕ) → 0 < n → k + n ≤ length bs → is_utf8 (drop k bs) ≡ is_utf8 (drop (k + n) bs) → Width bs k (Some n)
+  yes k n p l e = (p, record { onward = omega arith; inside = l; same = e })
 
   -- ---- the ways out of `width`, at a place k
 
   module _ (k : ℕ) (l : k < length bs) where
-    pub width_cut : length bs - k < char_size (at k) → Width bs k 0
+    pub width_cut : length bs - k < char_size (at k) → Width bs k None
     width_cut h =
         let m = char_size (at k) - 1 in
         let e : char_size (at k) ≡ suc m = omega arith in
-        no k (begun k m l e ∙ cut (due (at k) m) (drop (k + 1) bs) (omega (arith, due_length (at k) m, length-drop (k + 1) bs)))
+        begun k m l e ∙ cut (due (at k) m) (drop (k + 1) bs) (omega (arith, due_length (at k) m, length-drop (k + 1) bs))
 
-    pub width_none : char_size (at k) ≡ 0 → Width bs k 0
+    pub width_none : char_size (at k) ≡ 0 → Width bs k None
     unfolding is_utf8
-    width_none e = no k (ap (octets []) (from k l) ∙ no_lead (at k) (drop (k + 1) bs) e)
+    width_none e = ap (octets []) (from k l) ∙ no_lead (at k) (drop (k + 1) bs) e
 
-    pub width_one : char_size (at k) ≡ 1 → Width bs k 1
+    pub width_one : char_size (at k) ≡ 1 → Width bs k (Some 1)
     unfolding is_utf8 due
     width_one e = yes k 1 (omega arith) (omega arith) (begun k 0 l e)
 
@@ -130,29 +137,34 @@ module _ (bs : List ℕ) where
       unfolding tails
       and_tail i j m h f q = taken utf8_tail (tails m) (k + i) (k + j) (omega arith) (omega arith) q
 
-      pub second_fails : 2 ≤ n → within (second (at k)) (at (k + 1)) ≡ false → Width bs k 0
-      second_fails h q = no k (and_second (n - 2) (omega arith) q)
+      ending : 2 ≤ n → (t : Bool) → is_utf8 (drop k bs) ≡ (t && is_utf8 (drop (k + n) bs)) → Width bs k (then_some t n)
+      ending h true q = yes k n (omega arith) (omega arith) q
+      ending h false q = q
 
-      pub width_two : n ≡ 2 → within (second (at k)) (at (k + 1)) ≡ true → Width bs k 2
+      -- the bytes that are due decide
+      pub width_longer : 2 ≤ n → (t : Bool) → t ≡ (within (second (at k)) (at (k + 1)) && (ltb n 3 || within utf8_tail (at (k + 2)))
+          && (ltb n 4 || within utf8_tail (at (k + 3)))) → Width bs k (then_some t n)
       unfolding tails is_utf8
-      width_two f q = yes k 2 (omega arith) (omega arith) (and_second 0 f q)
-
-      module _ (q : within (second (at k)) (at (k + 1)) ≡ true) where
-        pub third_fails : 3 ≤ n → within utf8_tail (at (k + 2)) ≡ false → Width bs k 0
-        third_fails h r = let m = n - 3 in no k (and_second (suc m) (omega arith) q ∙ and_tail 2 3 m h refl r)
-
-        pub width_three : n ≡ 3 → within utf8_tail (at (k + 2)) ≡ true → Width bs k 3
-        unfolding tails is_utf8
-        width_three f r = yes k 3 (omega arith) (omega arith) (and_second 1 f q ∙ and_tail 2 3 0 (omega arith) refl r)
-
-        pub fourth_fails : n ≡ 4 → within utf8_tail (at (k + 2)) ≡ true → within utf8_tail (at (k + 3)) ≡ false → Width bs k 0
-        fourth_fails f r s = no k (and_second 2 f q ∙ and_tail 2 3 1 (omega arith) refl r ∙ and_tail 3 4 0 (omega arith) refl s)
-
-        pub width_four : n ≡ 4 → within utf8_tail (at (k + 2)) ≡ true → within utf8_tail (at (k + 3)) ≡ true → Width bs k 4
-        unfolding tails is_utf8
-        width_four f r s =
-            yes k 4 (omega arith) (omega arith)
-            (and_second 2 f q ∙ and_tail 2 3 1 (omega arith) refl r ∙ and_tail 3 4 0 (omega arith) refl s)
+      width_longer h t q =
+          let s = within (second (at k)) (at (k + 1)) in
+          let u = within utf8_tail (at (k + 2)) in
+          let v = within utf8_tail (at (k + 3)) in
+          let end = octets [] (drop (k + n) bs) in
+          ⊎_elim (λ (l : n < 3).
+          let f : n ≡ 2 = omega arith in
+          ending h t (and_second 0 f refl ∙ ap (λ j. s && octets [] (drop (k + j) bs)) (sym f)
+          ∙ and_all s true true end t (q ∙ ap₂ (λ x y. s && (x || u) && (y || v)) (lt-ltb n 3 l) (lt-ltb n 4 (omega arith))))) (λ l.
+          ⊎_elim (λ (m : n < 4).
+          let f : n ≡ 3 = omega arith in
+          ending h t (and_second 1 f refl ∙ ap (λ x. s && x) (and_tail 2 3 0 (omega arith) refl refl)
+          ∙ ap (λ j. s && (u && octets [] (drop (k + j) bs))) (sym f)
+          ∙ and_all s u true end t (q ∙ ap₂ (λ x y. s && (x || u) && (y || v)) (le-ltb n 3 l) (lt-ltb n 4 m)))) (λ m.
+          let f : n ≡ 4 = omega (arith, size_most (at k)) in
+          ending h t (and_second 2 f refl ∙ ap (λ x. s && x) (and_tail 2 3 1 (omega arith) refl refl)
+          ∙ ap (λ x. s && (u && x)) (and_tail 3 4 0 (omega arith) refl refl)
+          ∙ ap (λ j. s && (u && (v && octets [] (drop (k + j) bs)))) (sym f)
+          ∙ and_all s u v end t (q ∙ ap₂ (λ x y. s && (x || u) && (y || v)) (le-ltb n 3 l) (le-ltb n 4 m))))
+          (lt_or_ge n 4)) (lt_or_ge n 3)
 
   -- ---- ASCII
 
@@ -164,37 +176,25 @@ module _ (bs : List ℕ) where
       ascii_run k n (omega arith) (λ i m. h i (omega arith)) ∙ ap (octets []) (from (k + n) (omega arith))
       ∙ lead_one (at (k + n)) (drop (k + n + 1) bs) (h n (omega arith)) ∙ ap (λ j. octets [] (drop j bs)) q
 
-  -- eight bytes, the last of them highest
-  words : (k : ℕ) → low_first bs k + low_first bs (k + 4) * 4294967296 ≡ horner (λ i. at (k + (7 - i))) 8
-  unfolding horner
-  words k =
-      omega (
-        arith,
-        ap at (add-zero k),
-        same (k + 4 + 1) (k + 5) (omega arith),
-        same (k + 4 + 2) (k + 6) (omega arith),
-        same (k + 4 + 3) (k + 7) (omega arith),
-      )
-    where
-      same : (i j : ℕ) → i ≡ j → at i ≡ at j
-      same i j q = ap at q
-
-  pub ascii_eight : (k : ℕ) → k + 8 ≤ length bs → ((i : ℕ) → at i < 256)
-      → bit_and (low_first bs k + low_first bs (k + 4) * 4294967296) 0x8080_8080_8080_8080 ≡ 0 → Ascii bs k (k + 8)
+  -- a word of the eight bytes at k has no high bit only where they have none
+  pub ascii_word : (k : ℕ) (s : List ℕ) → k + 8 ≤ length bs → s ≡ take (k + 8 - k) (drop k bs) → ((i : ℕ) → at i < 256)
+      → bit_and (from_le_bytes w64 s) 0x8080_8080_8080_8080 ≡ 0 → Ascii bs k (k + 8)
   unfolding mask
-  ascii_eight k l small e = record { onward = omega arith; inside = l; low = here }
+  ascii_word k s l q small e = record { onward = omega arith; inside = l; low = here }
     where
-      lows : (i : ℕ) → i < 8 → at (k + (7 - i)) < 128
-      lows = all_low (λ i. at (k + (7 - i))) (λ i. small (k + (7 - i))) 8 (ap (λ w. bit_and w 0x8080_8080_8080_8080) (sym (words k)) ∙ e)
+      its : (i : ℕ) → i < 8 → get_or s i 0 ≡ at (k + i)
+      its i h = ap (λ t. get_or t i 0) q ∙ get_or-take (k + 8 - k) (drop k bs) i 0 (omega arith) ∙ get_or-drop k bs i 0
+
+      lows : (i : ℕ) → i < 8 → get_or s (7 - i) 0 < 128
+      lows = all_low (λ i. get_or s (7 - i) 0) (λ i. rw (its (7 - i) (omega arith)) (small (k + (7 - i)))) 8
+          (ap (λ w. bit_and w 0x8080_8080_8080_8080) (sym (word s)) ∙ e)
 
       here : (j : ℕ) → k ≤ j → j < k + 8 → at j < 128
-      here j f g = let q : k + (7 - (7 - (j - k))) ≡ j = omega arith in subst (λ i. at i < 128) q (lows (7 - (j - k)) (omega arith))
-
-  pub ascii_letter : (k : ℕ) → k < length bs → at k < 128 → Ascii bs k (k + 1)
-  ascii_letter k l h = record { onward = omega arith; inside = omega arith; low = λ j f g. let q : j ≡ k = omega arith in rw q h }
-
-  pub ascii_none : (k : ℕ) → k ≤ length bs → Ascii bs k k
-  ascii_none k l = record { onward = omega arith; inside = l; low = λ j f g. absurd (omega arith) }
+      here j f g =
+          let i = j - k in
+          let q : 7 - (7 - i) ≡ i = omega arith in
+          let r : k + i ≡ j = omega arith in
+          subst (λ n. n < 128) (its i (omega arith) ∙ ap at r) (subst (λ n. get_or s n 0 < 128) q (lows (7 - i) (omega arith)))
 
   -- ASCII is whole characters
   pub ascii_spans : {i j : ℕ} → Ascii bs i j → WholeChars bs i j
@@ -214,9 +214,25 @@ ascii_on {bs} {i} {j} {k} a b = record {
   low = λ n f g. ⊎_elim (λ (l : n < j). a.low n f l) (λ (l : j ≤ n). b.low n l g) (lt_or_ge n j);
 }
 
--- a word more, to the place n
-pub ascii_more : (bs : List ℕ) (i j n : ℕ) → j + 8 ≡ n → Ascii bs i j → Ascii bs j (j + 8) → Ascii bs i n
-ascii_more bs i j n q a b = subst (λ k. Ascii bs i k) q (ascii_on a b)
+-- the part at i is ASCII, with the rest behind it
+pub ascii_part : (bs : List ℕ) (i n : ℕ) (part rest : List ℕ) → drop i bs ≡ part ++ rest → length part ≡ n → i ≤ length bs
+    → Ascii bs 0 i → Ascii part 0 n → Ascii bs 0 (i + n)
+ascii_part bs i n part rest q e h a b = record {
+  onward = omega arith;
+  inside = let s = ap length q in omega (arith, s, e, length-drop i bs, length-append part rest);
+  low = λ k f g.
+      ⊎_elim (λ (l : k < i). a.low k f l)
+      (λ (l : i ≤ k).
+      let j : i + (k - i) ≡ k = omega arith in
+      let s : get_or bs k 0 ≡ get_or part (k - i) 0 =
+      ap (λ n. get_or bs n 0) (sym j) ∙ sym (get_or-drop i bs (k - i) 0) ∙ ap (λ l. get_or l (k - i) 0) q
+      ∙ get_or-append part rest 0 (k - i) (omega (arith, e)) in
+      subst (λ x. x < 0x80) (sym s) (b.low (k - i) (omega arith) (omega arith)))
+      (lt_or_ge k i);
+}
+
+pub ascii_behind : (bs : List ℕ) (i n : ℕ) (part rest : List ℕ) → drop i bs ≡ part ++ rest → length part ≡ n → rest ≡ drop (i + n) bs
+ascii_behind bs i n part rest q e = sym (drop-append_seam part rest) ∙ ap₂ drop e (sym q) ∙ drop-drop n i bs
 
 pub ascii_to : {bs : List ℕ} {i j k : ℕ} → Ascii bs i j → AsciiTo bs j k → AsciiTo bs i k
 ascii_to a b = record { run = ascii_on a b.run; stops = b.stops }

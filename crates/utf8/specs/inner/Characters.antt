@@ -1,7 +1,7 @@
 -- ASCII, which is UTF-8 however it is cut, and what the inner functions tell one another, by places of the bytes. It need not be
 -- believed: `is_utf8` does not rest on it.
 -- Assumes nothing.
-use Rattle.std.specs.Prelude.{◌≡◌, Bool, true, false, ◌&&◌, cond, List, [], ◌∷◌, ℕ, ◌+◌, ◌*◌, ◌≤◌, ◌<◌, length, get_or, drop, ltb, eqb}
+use Rattle.std.specs.Prelude.{◌≡◌, Option, Some, None, Bool, true, false, ◌&&◌, cond, List, [], ◌∷◌, ℕ, ◌+◌, ◌≤◌, ◌<◌, length, get_or, drop, ltb, eqb}
 use Rattle.utf8.specs.Utf8.{Range, ◌to◌, within, utf8_tail, is_utf8}
 
 -- every byte is a UTF8-1
@@ -26,10 +26,10 @@ pub record AsciiTo (bs : List ℕ) (from next : ℕ) : Type 0 where
   pub run : Ascii bs from next
   pub stops : next < length bs → 0x80 ≤ get_or bs next 0
 
--- n bytes are the character at a place; or n is 0 and none stands there
-pub record Width (bs : List ℕ) (at n : ℕ) : Type 0 where
-  pub whole : 0 < n → WholeChars bs at (at + n)
-  pub broken : n ≡ 0 → is_utf8 (drop at bs) ≡ false
+-- n bytes are the character at a place; or none stands there
+abbrev pub Width : List ℕ → ℕ → Option ℕ → Type 0
+Width bs at (Some n) = (0 < n) × WholeChars bs at (at + n)
+Width bs at None = is_utf8 (drop at bs) ≡ false
 
 -- how many bytes a character has that a byte leads; 0 where it leads none
 unfoldable pub char_size : ℕ → ℕ
@@ -42,8 +42,3 @@ unfoldable pub second : ℕ → Range
 second a =
     cond (eqb a 0xE0) (0xA0 to 0xBF)
     (cond (eqb a 0xED) (0x80 to 0x9F) (cond (eqb a 0xF0) (0x90 to 0xBF) (cond (eqb a 0xF4) (0x80 to 0x8F) utf8_tail)))
-
--- four bytes from a place on as one number, low byte first
-abbrev pub low_first : List ℕ → ℕ → ℕ
-low_first bs at =
-    ((get_or bs (at + 3) 0 * 256 + get_or bs (at + 2) 0) * 256 + get_or bs (at + 1) 0) * 256 + get_or bs at 0
