@@ -2,8 +2,7 @@
 -- Assumes nothing.
 use Rattle.std.specs.Prelude.{Bool, true, false, not, ◌&&◌, ◌||◌, cond, List, [], ◌∷◌, ℕ, ◌+◌, ◌-◌, ◌*◌, leb, eqb}
 use Rattle.table.specs.Table.{origin, within_kind, shares_sum, known_edition}
-use Rattle.grammar.specs.Token.{part}
-use Rattle.grammar.specs.declared.token.Token.{Token}
+use Rattle.grammar.specs.Token.{Token, part}
 
 pub record Signed : Type 0 where
   pub minus : Bool

@@ -5,14 +5,13 @@ use Rattle.std.specs.Prelude.{Bool, true, false, not, ◌&&◌, ◌||◌, cond, 
 use Rattle.std.proofs.Math.Option.{Option, none, some}
 use Rattle.table.specs.Lists.{first_no}
 use Rattle.table.specs.Table.{Sort, Branch, Table, states_most, branches_most, fields_most}
-use Rattle.grammar.specs.Token.{one_of, word_in}
+use Rattle.grammar.specs.Token.{Token, one_of, word_in}
 use Rattle.grammar.specs.inner.Scanner.{tokens}
 use Rattle.grammar.specs.Number.{signed_in, offset, in_kind, in_share, in_edition}
 use Rattle.grammar.specs.Grammar.{text_limit, open_most, or_else}
 use Rattle.grammar.specs.Building.{empty_branch, labelled, field_added, aimed, stateless, set_edition, add_state, add_branch, add_share, label_used, choice_right, Built, came, denied}
 use Rattle.grammar.specs.Filled.{written}
 use Rattle.grammar.specs.declared.Reading.{Reading}
-use Rattle.grammar.specs.declared.token.Token.{Token}
 use Rattle.table.specs.Table as S
 use Rattle.grammar.specs.Kind as K
 

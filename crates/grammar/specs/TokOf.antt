@@ -1,10 +1,9 @@
 -- A token of a text as the grammar sees it.
 -- Assumes nothing.
 use Rattle.std.specs.Prelude.{cond, List, ℕ, eqb}
-use Rattle.grammar.specs.Token.{word_in}
+use Rattle.grammar.specs.Token.{Token, word_in}
 use Rattle.grammar.specs.Number.{signed_in}
 use Rattle.grammar.specs.Grammar.{Tok, word, number, sign}
-use Rattle.grammar.specs.declared.token.Token.{Token}
 use Rattle.grammar.specs.Kind as K
 
 unfoldable pub tok_of : List ℕ → Token → Tok

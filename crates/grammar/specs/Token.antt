@@ -1,7 +1,13 @@
 -- What a token of a text is: its kind, where it begins and ends, and, of a name or label, its word.
 -- Assumes nothing.
 use Rattle.std.specs.Prelude.{Bool, true, false, cond, List, [], ◌∷◌, ℕ, zero, suc, ◌+◌, ◌-◌, ◌*◌, ◌^◌, eqb, take, drop}
-use Rattle.grammar.specs.declared.token.Token.{Token}
+
+-- The kind of a sign is its own byte; the other kinds are those of Kind.antt and, of a word, its first letter. The token's bytes are those from
+-- `start` up to `end`.
+pub record Token : Type 0 where
+  pub kind : ℕ
+  pub start : ℕ
+  pub end : ℕ
 
 -- a token of kind k from a up to e
 abbrev pub token : ℕ → ℕ → ℕ → Token

@@ -4,10 +4,8 @@
 
 use table::Table;
 
-pub mod token;
-
 // What reading gives: question 0, `at` 0 and the text's table; or the number of the question that got a no, the place of its token, and the
-// empty table.
+// empty table. No `Result`: C reads it as it is.
 #[repr(C)]
 #[derive(Drop)]
 pub struct Reading {

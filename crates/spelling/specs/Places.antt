@@ -2,9 +2,8 @@
 -- reading refuses, and where, is said without a scanner, too.
 -- Assumes nothing.
 use Rattle.std.specs.Prelude.{◌≡◌, Bool, true, false, List, [], ◌∷◌, ◌++◌, ℕ, ◌+◌, length}
-use Rattle.grammar.specs.Token.{token}
+use Rattle.grammar.specs.Token.{Token, token}
 use Rattle.grammar.specs.Grammar.{Tok, word, number, sign}
-use Rattle.grammar.specs.declared.token.Token.{Token}
 use Rattle.spelling.specs.Spelling.{blank, Spells, EndsRun}
 use Rattle.grammar.specs.Kind as K
 

@@ -7,7 +7,7 @@ use Rattle.grammar.specs.Grammar.{Protocol, Tok, print_text, table_of, names_bou
 use Rattle.grammar.specs.TokOf.{tok_of}
 use Rattle.grammar.specs.Filled.{not_read}
 use Rattle.grammar.specs.Reading.{reads}
-use Rattle.grammar.specs.declared.token.Token.{Token}
+use Rattle.grammar.specs.Token.{Token}
 use Rattle.spelling.specs.Spelling.{Spelt}
 use Rattle.spelling.specs.Places.{Placed}
 use Rattle.grammar.specs.Kind as K

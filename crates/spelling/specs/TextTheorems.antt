@@ -3,14 +3,13 @@
 use Rattle.std.specs.Prelude.{◌≡◌, true, cond, ◌↔◌, List, ℕ, suc, ◌≤◌, leb, length}
 use Rattle.table.specs.Ascii.{letters, digits}
 use Rattle.table.specs.View.{label_of, view, sound_of}
-use Rattle.grammar.specs.Token.{word_of}
+use Rattle.grammar.specs.Token.{Token, word_of}
 use Rattle.grammar.specs.Number.{value_of}
 use Rattle.grammar.specs.Grammar.{Protocol, Tok, print_text, table_of, Legal}
 use Rattle.grammar.specs.Building.{denied}
 use Rattle.grammar.specs.Filled.{came_out, filled, padded, written}
 use Rattle.grammar.specs.Reading.{start, run_tokens, reads}
 use Rattle.grammar.specs.declared.Reading.{Reading}
-use Rattle.grammar.specs.declared.token.Token.{Token}
 use Rattle.spelling.specs.Spelling.{Name, Spelt}
 use Rattle.spelling.specs.Places.{Placed}
 use Rattle.spelling.specs.Speller.{spell, Spellable}

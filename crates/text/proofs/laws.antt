@@ -1,4 +1,6 @@
 -- Laws, each file named for the definition that it is about.
+pub mod Bytes
+pub mod Entries
 pub mod Env
 pub mod ExpectAt
 pub mod FieldsAt
@@ -15,4 +17,5 @@ pub mod Recursive
 pub mod SharedAt
 pub mod Stores
 pub mod Taken
+pub mod Told
 pub mod TypeBy

@@ -1,26 +1,24 @@
 // The share of a branch, and the dot before its type.
 ghost use Rattle.std.specs.Prelude.{◌≡◌};
-ghost use Rattle.text.specs.inner.Recursive.{shared_at};
+ghost use Rattle.text.specs.inner.Recursive.{told_count, shared_at};
 
-use crate::count::Counted;
-use crate::{count, limits, step};
+use crate::cursor::{Cursor, Refusal};
+use crate::limits;
+use table::Question;
 
-// After a branch's fields: a dot, or `@`, a share and a dot. The number is the share, 0 for none.
-pub fn read_share(s: &[u8], p: usize) -> Counted
-    ensures { result ≡ shared_at s.now p }
-{
-    let d = step::expect_dot(s, p);
-    if d.question == 0 {
-        return count::answer(0, d.at, 0);
+impl Cursor<'_> {
+    // After a branch's fields: a dot, or `@`, a share and a dot. The number is the share, 0 for none.
+    #[tactic(auto, using(crate::proofs::laws::ExpectAt::expect_yes, crate::proofs::laws::ExpectAt::expect_no, crate::proofs::laws::Told::asked), unfolding(crate::specs::inner::Recursive::shared_at, crate::specs::inner::Recursive::dotted, crate::specs::inner::Recursive::passed, crate::specs::inner::Recursive::then_dot))]
+    pub fn share(&mut self) -> Result<u32, Refusal>
+        ensures same { self.new.text ≡ self.old.text }
+        ensures is { told_count result self.new.at ≡ shared_at self.old.text.now self.old.at }
+    {
+        if self.expect_dot().is_ok() {
+            return Ok(0);
+        }
+        self.expect_sign(b'@')?;
+        let share = self.count(limits::SHARE, Question::BadShare)?;
+        self.expect_dot()?;
+        Ok(share)
     }
-    let a = step::expect_sign(s, p, b'@');
-    if a.question != 0 {
-        return count::answer(a.question, a.at, 0);
-    }
-    let w = count::count_at(s, a.at, limits::SHARE, 19);
-    if w.question != 0 {
-        return w;
-    }
-    let e = step::expect_dot(s, w.at);
-    count::answer(e.question, e.at, w.number)
 }

@@ -12,9 +12,7 @@ use lib.Dec.{T, eqb, leb, eqb→eq}
 use borrow.Author.Tests.{ne_eqb, eqb-true, le-leb, lt-leb}
 use Rattle.table.specs.Table.{upper, letter_or_digit}
 use Rattle.grammar.specs.Token.{one_of}
-use Rattle.grammar.specs.inner.Scanner.{between, signs, is_space, is_digit, is_dot, class_of}
-use Rattle.grammar.specs.declared.token.Class.{Class}
-use Rattle.grammar.specs.declared.token.Class.TheVariants.{Space, Lower, Upper, Digit, Dot, Minus, Sign, Other}
+use Rattle.grammar.specs.inner.Scanner.{Class, Space, Lower, Upper, Digit, Dot, Minus, Sign, Other, between, signs, is_space, is_digit, is_dot, class_of}
 use types.Run.{OneOf}
 
 -- computing compares classes by their numbers

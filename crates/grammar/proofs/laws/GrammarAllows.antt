@@ -13,12 +13,11 @@ use borrow.Author.Tests.{eq-eqb, ne_eqb, eqb-true, eqb-false}
 use Rattle.table.specs.Lists.{first_no}
 use Rattle.grammar.proofs.laws.Questions.{asked}
 use Rattle.table.specs.Table.{Table, Branch}
-use Rattle.grammar.specs.Token.{word_of, word_in}
+use Rattle.grammar.specs.Token.{Token, word_of, word_in}
 use Rattle.grammar.specs.Number.{Signed, signed_in, offset}
 use Rattle.grammar.specs.Reading.{Item, outset, edition, just, name, label, type, more, fields, field, low, high, more_fields, dot, share, Open, State, state, opens_type, admits, token_formed, grammar_allows, edition_known, name_bound, guarded, ranged, share_ranged, new_label, within_limits, shares_add, sign_of, kind_of, a_branch, a_field, began, type_taken, taken, questions}
 use Rattle.grammar.specs.Grammar.{Tok, word, number, sign, sending, receiving, Kind, int, text, flag, SyntaxField, Share, Ty, stop, var, loop, choice, Br, last, also, letter, print_field, print_more, print_fields, print_share, print_head, print, print_br, print_opening}
 use Rattle.grammar.specs.TokOf.{tok_of}
-use Rattle.grammar.specs.declared.token.Token.{Token}
 use Rattle.grammar.proofs.laws.TokOf.{sign_kind, word_kind, number_kind, kind_sign, kind_word, kind_number}
 use types.Run.{OneOf}
 

@@ -13,12 +13,9 @@ use borrow.Author.Tests.{eqb-true, leb-true, leb-false}
 use Rattle.table.specs.Lists.{every, same}
 use Rattle.table.specs.Table.{upper, letter_or_digit}
 use Rattle.table.proofs.laws.Lists.{join}
-use Rattle.grammar.specs.Token.{part, token, word_of, word_in}
-use Rattle.grammar.specs.inner.Scanner.{is_space, is_digit, is_dot, class_of, run_of, run_end, word_kind, word_token, name_token, number_kind, number_token, dots_token, begin_at, token_at, tokens_from, tokens}
+use Rattle.grammar.specs.Token.{Token, part, token, word_of, word_in}
+use Rattle.grammar.specs.inner.Scanner.{Class, Space, Lower, Upper, Digit, Dot, Minus, Sign, Other, is_space, is_digit, is_dot, class_of, run_of, run_end, word_kind, word_token, name_token, number_kind, number_token, dots_token, begin_at, token_at, tokens_from, tokens}
 use Rattle.grammar.specs.Number.{Signed, signed_in}
-use Rattle.grammar.specs.declared.token.Class.{Class}
-use Rattle.grammar.specs.declared.token.Class.TheVariants.{Space, Lower, Upper, Digit, Dot, Minus, Sign, Other}
-use Rattle.grammar.specs.declared.token.Token.{Token}
 use Rattle.grammar.specs.Grammar.{SyntaxField, Share, Ty, stop, var, loop, choice, Br, last, also, Protocol, Tok, word, number, sign, arrow, print_more, print_fields, print_share, print, print_br, print_opening}
 use Rattle.grammar.specs.TokOf.{tok_of}
 use Rattle.grammar.specs.inner.Writes.{Writes}

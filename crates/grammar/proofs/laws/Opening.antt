@@ -14,7 +14,7 @@ use Rattle.grammar.specs.Building.{empty_branch, stateless, set_edition, Built}
 use Rattle.grammar.specs.Reading.{Item, outset, edition, type, Open, State, state, start, token_formed, grammar_allows, edition_known, name_bound, guarded, ranged, share_ranged, new_label, within_limits, shares_add, taken, run_tokens, questions}
 use Rattle.grammar.specs.Grammar.{Ty, Tok, number, sign, print, print_opening, edition_named, opening_legal}
 use Rattle.grammar.specs.TokOf.{tok_of}
-use Rattle.grammar.specs.declared.token.Token.{Token}
+use Rattle.grammar.specs.Token.{Token}
 use Rattle.grammar.proofs.laws.Questions.{asked}
 use Rattle.grammar.proofs.laws.TokOf.{sign_kind, number_kind, kind_sign}
 use Rattle.grammar.proofs.laws.RunTokens.{Goes, after, given, one, past}

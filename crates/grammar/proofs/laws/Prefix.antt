@@ -18,7 +18,7 @@ use Rattle.grammar.specs.Reading.{Item, outset, edition, just, name, label, type
 use Rattle.grammar.specs.Grammar.{Tok, sign, Protocol, print, print_opening, print_text}
 use Rattle.grammar.specs.TokOf.{tok_of}
 use Rattle.grammar.specs.declared.Reading.{Reading}
-use Rattle.grammar.specs.declared.token.Token.{Token}
+use Rattle.grammar.specs.Token.{Token}
 use Rattle.grammar.proofs.laws.TokenAt.{onward}
 use Rattle.grammar.proofs.laws.TokOf.{kind_sign}
 use Rattle.grammar.proofs.laws.RunTokens.{passed, run_refused}

@@ -15,14 +15,13 @@ use Rattle.grammar.proofs.laws.Questions.{asked}
 use Rattle.table.specs.Lists.{every, first_no}
 use Rattle.table.specs.Table.{Table, Branch, of_choice, shares_right}
 use Rattle.table.proofs.laws.Lists.{both, join}
-use Rattle.grammar.specs.Token.{one_of}
+use Rattle.grammar.specs.Token.{Token, one_of}
 use Rattle.grammar.specs.Number.{Signed, offset, in_kind, in_share}
 use Rattle.table.specs.View.{label_of}
 use Rattle.grammar.specs.Building.{empty_branch, labelled, field_added, add_state, add_branch, add_share, label_used, choice_right}
 use Rattle.grammar.specs.Reading.{Item, just, name, label, type, more, fields, field, low, high, more_fields, dot, share, Open, a_rec, a_choice, State, state, meaning, unguarded, closed, token_formed, grammar_allows, edition_known, is_found, name_bound, guarded, ranged, share_ranged, new_label, within_limits, shares_add, sign_of, choice_sort, kind_of, a_branch, a_field, target, stored, began, taken, questions}
 use Rattle.grammar.specs.Grammar.{Way, sending, receiving, Kind, int, text, flag, SyntaxField, Share, Ty, stop, var, loop, choice, Br, last, also, Tok, word, number, sign, mark, arrow, letter, kind_code, way_sort, field_of, print_more, print_fields, print_share, print_head, print, print_br, sorts, sorts_br, bind, or_else, first_state, share_of, shares, shares_br, range_legal, share_legal, branch_for as row, branches as rows, branches_br as rowsBr}
 use Rattle.grammar.specs.TokOf.{tok_of}
-use Rattle.grammar.specs.declared.token.Token.{Token}
 use Rattle.grammar.proofs.laws.TokOf.{sign_kind, word_kind, number_kind}
 use Rattle.grammar.proofs.laws.RunTokens.{Goes, NoneOr, after, given, one, past, done, ending, into, towards}
 use Rattle.grammar.proofs.laws.Good.{has_some, All, Only, GoodFields, GoodHead, Good, GoodBr}

@@ -7,7 +7,7 @@ use lib.ListN.{length}
 use Rattle.table.specs.Lists.{every, first_no}
 use Rattle.grammar.specs.Grammar.{Br, everywhere_br, bare, fields_in, range_legal, label_new, share_in, share_legal}
 use Rattle.grammar.specs.Reading.{State, questions}
-use Rattle.grammar.specs.declared.token.Token.{Token}
+use Rattle.grammar.specs.Token.{Token}
 
 abbrev pub asked : List ℕ → State → Token → ℕ
 asked s st k = first_no (questions s st k)

@@ -20,7 +20,7 @@ use Rattle.grammar.specs.Grammar.{Protocol, sign, print_text, nothing_bound, edi
 use Rattle.grammar.specs.TokOf.{tok_of}
 use Rattle.grammar.specs.inner.Writes.{Writes}
 use Rattle.grammar.specs.declared.Reading.{Reading}
-use Rattle.grammar.specs.declared.token.Token.{Token}
+use Rattle.grammar.specs.Token.{Token}
 use Rattle.grammar.proofs.laws.Holds.{legal_holds, view_holds, known_holds}
 use Rattle.grammar.proofs.laws.TokOf.{sign_kind}
 use Rattle.grammar.proofs.laws.RunTokens.{Goes, first_is, rest_is, never_empty}

@@ -14,7 +14,7 @@ use Rattle.grammar.specs.Building.{denied}
 use Rattle.grammar.specs.inner.Scanner.{token_at, tokens_from, tokens}
 use Rattle.grammar.specs.Reading.{State, questions, taken, run_tokens, start, built, reads}
 use Rattle.grammar.specs.declared.Reading.{Reading}
-use Rattle.grammar.specs.declared.token.Token.{Token}
+use Rattle.grammar.specs.Token.{Token}
 use Rattle.grammar.proofs.laws.Spans.{token_spans}
 
 place_within : (n : ℕ) (s : List ℕ) (p : ℕ) (st : State) → (run_tokens s st (tokens_from n s p)).at ≤ length s

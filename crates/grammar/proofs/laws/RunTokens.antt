@@ -13,7 +13,7 @@ use Rattle.grammar.specs.Building.{denied, Built}
 use Rattle.grammar.specs.Reading.{State, taken, run_tokens}
 use Rattle.grammar.specs.Grammar.{Tok}
 use Rattle.grammar.specs.TokOf.{tok_of}
-use Rattle.grammar.specs.declared.token.Token.{Token}
+use Rattle.grammar.specs.Token.{Token}
 
 -- Over tokens ks that are ts, reading goes on from st: where P holds, in the state st' over tokens that are us; else it ends with a no to
 -- another question than q (q is 0: with a no).

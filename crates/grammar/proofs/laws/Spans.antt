@@ -8,11 +8,8 @@ use lib.Dec.{leb}
 use lib.ListN.{length, get_or}
 use borrow.Author.Tests.{leb-false}
 use Rattle.table.specs.Table.{letter_or_digit}
-use Rattle.grammar.specs.Token.{token}
-use Rattle.grammar.specs.inner.Scanner.{is_space, is_digit, is_dot, class_of, run_end, word_token, name_token, number_token, dots_token, begin_at, token_at, Spans}
-use Rattle.grammar.specs.declared.token.Class.{Class}
-use Rattle.grammar.specs.declared.token.Class.TheVariants.{Space, Lower, Upper, Digit, Dot, Minus, Sign, Other}
-use Rattle.grammar.specs.declared.token.Token.{Token}
+use Rattle.grammar.specs.Token.{Token, token}
+use Rattle.grammar.specs.inner.Scanner.{Class, Space, Lower, Upper, Digit, Dot, Minus, Sign, Other, is_space, is_digit, is_dot, class_of, run_end, word_token, name_token, number_token, dots_token, begin_at, token_at, Spans}
 use Rattle.grammar.proofs.laws.RunOf.{run_from, run_within}
 
 begin_spans : (s : List ℕ) (a : ℕ) (x : Class) → a < length s → Spans s (begin_at s a x)

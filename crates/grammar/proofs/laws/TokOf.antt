@@ -8,11 +8,10 @@ use Prim.Native.Nat.{ℕ}
 use native.Mathlib.Omega.{arith}
 use lib.Dec.{eqb}
 use borrow.Author.Tests.{eq-eqb, ne_eqb, eqb-true}
-use Rattle.grammar.specs.Token.{word_in}
+use Rattle.grammar.specs.Token.{Token, word_in}
 use Rattle.grammar.specs.Number.{Signed, signed_in}
 use Rattle.grammar.specs.Grammar.{Tok, word, number, sign}
 use Rattle.grammar.specs.TokOf.{tok_of}
-use Rattle.grammar.specs.declared.token.Token.{Token}
 
 -- what a token is as the grammar sees it
 abbrev pub Kinds : List ℕ → Token → Tok → Type 0

@@ -5,10 +5,7 @@ use Rattle.std.specs.Prelude.{Bool, ◌&&◌, cond, List, [], ◌∷◌, ℕ, ze
 use Rattle.table.specs.Ascii.{ascii}
 use Rattle.table.specs.Lists.{same}
 use Rattle.table.specs.Table.{letter_or_digit}
-use Rattle.grammar.specs.declared.token.Class.{Class}
-use Rattle.grammar.specs.declared.token.Class.TheVariants.{Space, Lower, Upper, Digit, Dot, Minus, Sign, Other}
-use Rattle.grammar.specs.declared.token.Token.{Token}
-use Rattle.grammar.specs.Token.{one_of, part, token}
+use Rattle.grammar.specs.Token.{Token, one_of, part, token}
 use Rattle.grammar.specs.Kind as K
 
 -- x lies from low to high
@@ -31,7 +28,17 @@ is_digit b = between 48 57 b
 abbrev pub is_dot : ℕ → Bool
 is_dot b = eqb b 46
 
--- what a byte can begin: a-z, A-Z, 0-9, a space or line feed, a dot, a minus, another sign, nothing
+-- what a byte can begin: a space or line feed, a-z, A-Z, 0-9, a dot, a minus, another sign, nothing
+pub data Class : Type 0 where
+  Space : Class
+  Lower : Class
+  Upper : Class
+  Digit : Class
+  Dot : Class
+  Minus : Class
+  Sign : Class
+  Other : Class
+
 unfoldable pub class_of : ℕ → Class
 class_of b =
     cond (between 97 122 b) Lower

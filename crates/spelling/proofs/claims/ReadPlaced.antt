@@ -10,7 +10,7 @@ use Rattle.grammar.specs.Building.{Built, denied}
 use Rattle.grammar.specs.Filled.{written}
 use Rattle.grammar.specs.Reading.{start, run_tokens, built, reads}
 use Rattle.grammar.specs.Grammar.{text_limit}
-use Rattle.grammar.specs.declared.token.Token.{Token}
+use Rattle.grammar.specs.Token.{Token}
 use Rattle.spelling.specs.TextTheorems.{ReadPlaced}
 use Rattle.spelling.proofs.laws.Placed.{placed_scanned, run_upto, upto_bad}
 

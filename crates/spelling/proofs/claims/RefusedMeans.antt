@@ -12,7 +12,7 @@ use borrow.Author.Tests.{ne_eqb, eqb-true}
 use Rattle.table.specs.Lists.{every, first_no}
 use Rattle.table.specs.Table.{upper}
 use Rattle.table.proofs.laws.Lists.{never}
-use Rattle.grammar.specs.Token.{token}
+use Rattle.grammar.specs.Token.{Token, token}
 use Rattle.grammar.specs.inner.Scanner.{tokens}
 use Rattle.grammar.specs.Building.{denied}
 use Rattle.grammar.specs.Filled.{not_read, written}
@@ -21,7 +21,6 @@ use Rattle.grammar.proofs.laws.Questions.{asked}
 use Rattle.grammar.specs.Grammar.{Protocol, Tok, word, number, sign, print_text}
 use Rattle.grammar.specs.TokOf.{tok_of}
 use Rattle.grammar.specs.declared.Reading.{Reading}
-use Rattle.grammar.specs.declared.token.Token.{Token}
 use Rattle.grammar.proofs.laws.TokOf.{kind_sign}
 use Rattle.grammar.proofs.laws.GrammarAllows.{MadeUp}
 use Rattle.grammar.proofs.laws.Prefix.{Forbidden, three}

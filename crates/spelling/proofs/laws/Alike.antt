@@ -10,13 +10,12 @@ use borrow.Author.Tests.{eqb-true, eqb-false}
 use Rattle.table.specs.Lists.{first_no}
 use Rattle.grammar.proofs.laws.Questions.{asked}
 use Rattle.table.specs.Table.{Table}
-use Rattle.grammar.specs.Token.{word_in}
+use Rattle.grammar.specs.Token.{Token, word_in}
 use Rattle.grammar.specs.Number.{Signed, signed_in, offset, in_kind, in_share, in_edition}
 use Rattle.grammar.specs.Grammar.{Tok, word, number, sign, or_else}
 use Rattle.grammar.specs.TokOf.{tok_of}
 use Rattle.grammar.specs.Building.{label_used, denied}
 use Rattle.grammar.specs.Reading.{Item, outset, edition, just, name, label, type, more, fields, field, low, high, more_fields, dot, share, Open, State, state, open_in, table_in, is_a, next_item, meaning, unguarded, owner_in, admits, as_type, is_found, number_in_range, token_formed, grammar_allows, edition_known, name_bound, guarded, ranged, share_ranged, new_label, within_limits, shares_add, target, began, taken, run_tokens, questions}
-use Rattle.grammar.specs.declared.token.Token.{Token}
 use Rattle.grammar.proofs.laws.TokOf.{word_kind, number_kind, kind_word, kind_number}
 use Rattle.grammar.proofs.laws.RunTokens.{first_is, rest_is, never_empty, passed}
 use Rattle.grammar.proofs.laws.GrammarAllows.{asked_none}

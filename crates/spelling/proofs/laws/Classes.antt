@@ -14,9 +14,7 @@ use Rattle.table.specs.Table.{upper, letter_or_digit}
 use Rattle.table.proofs.laws.Lists.{both, never}
 use Rattle.table.proofs.laws.View.{same_eq}
 use Rattle.grammar.specs.Token.{one_of}
-use Rattle.grammar.specs.inner.Scanner.{is_space, class_of}
-use Rattle.grammar.specs.declared.token.Class.{Class}
-use Rattle.grammar.specs.declared.token.Class.TheVariants.{Space, Lower, Upper, Digit, Dot, Minus, Sign, Other}
+use Rattle.grammar.specs.inner.Scanner.{Class, Space, Lower, Upper, Digit, Dot, Minus, Sign, Other, is_space, class_of}
 use Rattle.grammar.proofs.laws.ClassOf.{code, is, ranged, class_test, upper_word, lower_word}
 use Rattle.spelling.specs.Spelling.{a_digit, blank, sign_tokens, Listed}
 use Rattle.spelling.specs.Speller.{beside}

@@ -11,14 +11,11 @@ use lib.ListN.{length, drop, length-drop, length-append}
 use borrow.Author.Tests.{eq-eqb, ne_eqb, eqb-true, eqb-false}
 use Rattle.table.specs.Lists.{first_no}
 use Rattle.grammar.proofs.laws.Questions.{asked}
-use Rattle.grammar.specs.Token.{token}
-use Rattle.grammar.specs.inner.Scanner.{class_of, word_token, name_token, number_token, dots_token, begin_at, token_at, tokens_from, tokens}
+use Rattle.grammar.specs.Token.{Token, token}
+use Rattle.grammar.specs.inner.Scanner.{Class, Space, Lower, Upper, Digit, Dot, Minus, Sign, Other, class_of, word_token, name_token, number_token, dots_token, begin_at, token_at, tokens_from, tokens}
 use Rattle.grammar.specs.Building.{Built, denied}
 use Rattle.grammar.specs.Reading.{State, token_formed, taken, run_tokens, questions}
 use Rattle.grammar.specs.Grammar.{Tok}
-use Rattle.grammar.specs.declared.token.Class.{Class}
-use Rattle.grammar.specs.declared.token.Class.TheVariants.{Space, Lower, Upper, Digit, Dot, Minus, Sign, Other}
-use Rattle.grammar.specs.declared.token.Token.{Token}
 use Rattle.grammar.proofs.laws.TokOf.{kind_sign}
 use Rattle.spelling.specs.Spelling.{blank, Spells}
 use Rattle.spelling.specs.Places.{Begins, kind_in, Placed, ran_out, malformed, a_blank, a_token}

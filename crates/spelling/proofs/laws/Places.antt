@@ -4,7 +4,7 @@ use mathlib.Core.List.{List, [], ◌∷◌, ◌++◌}
 use Prim.Native.Nat.{ℕ, suc, ◌+◌, ◌≤◌}
 use native.Mathlib.Omega.{arith}
 use lib.ListN.{length, drop}
-use Rattle.grammar.specs.declared.token.Token.{Token}
+use Rattle.grammar.specs.Token.{Token}
 use Rattle.grammar.proofs.laws.TokenAt.{onward}
 use Rattle.spelling.specs.Places.{Placed, ran_out, malformed, a_blank, a_token}
 use Rattle.spelling.specs.Refusals.{At}

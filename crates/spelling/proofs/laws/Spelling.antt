@@ -13,13 +13,10 @@ use Rattle.table.specs.Lists.{every, same}
 use Rattle.table.specs.Table.{upper, letter_or_digit}
 use Rattle.table.proofs.laws.Lists.{both, join}
 use Rattle.table.proofs.laws.View.{same_eq}
-use Rattle.grammar.specs.Token.{token}
-use Rattle.grammar.specs.inner.Scanner.{is_space, class_of, run_end, word_kind, word_token, name_token, number_kind, number_token, dots_token, begin_at, token_at, tokens_from}
+use Rattle.grammar.specs.Token.{Token, token}
+use Rattle.grammar.specs.inner.Scanner.{Class, Space, Lower, Upper, Digit, Dot, Minus, Sign, Other, is_space, class_of, run_end, word_kind, word_token, name_token, number_kind, number_token, dots_token, begin_at, token_at, tokens_from}
 use Rattle.grammar.specs.Grammar.{Tok, number, sign}
 use Rattle.grammar.specs.TokOf.{tok_of}
-use Rattle.grammar.specs.declared.token.Class.{Class}
-use Rattle.grammar.specs.declared.token.Class.TheVariants.{Space, Lower, Upper, Digit, Dot, Minus, Sign, Other}
-use Rattle.grammar.specs.declared.token.Token.{Token}
 use Rattle.grammar.proofs.laws.RunOf.{run_on, run_off, run_out}
 use Rattle.grammar.proofs.laws.TokenAt.{onward}
 use Rattle.grammar.proofs.laws.TokOf.{tok_tag, sign_in, kind_sign}

@@ -13,14 +13,11 @@ use borrow.Author.Tests.{ne_eqb, le-leb, lt-leb, leb-true}
 use Rattle.table.specs.Lists.{every, same, matched}
 use Rattle.table.specs.Table.{upper, letter_or_digit}
 use Rattle.table.proofs.laws.Lists.{both, join, never}
-use Rattle.grammar.specs.Token.{one_of, part, token, word_of}
-use Rattle.grammar.specs.inner.Scanner.{is_space, class_of, run_of, run_end, word_kind, word_token, name_token, number_kind, number_token, dots_token, begin_at, token_at}
+use Rattle.grammar.specs.Token.{Token, one_of, part, token, word_of}
+use Rattle.grammar.specs.inner.Scanner.{Class, Lower, Upper, Digit, Dot, Minus, Sign, is_space, class_of, run_of, run_end, word_kind, word_token, name_token, number_kind, number_token, dots_token, begin_at, token_at}
 use Rattle.grammar.specs.Number.{value_of, signed_of}
 use Rattle.grammar.specs.Grammar.{Tok, word, number, sign}
 use Rattle.grammar.specs.TokOf.{tok_of}
-use Rattle.grammar.specs.declared.token.Class.{Class}
-use Rattle.grammar.specs.declared.token.Class.TheVariants.{Lower, Upper, Digit, Dot, Minus, Sign}
-use Rattle.grammar.specs.declared.token.Token.{Token}
 use Rattle.grammar.proofs.laws.ClassOf.{code, upper_word}
 use Rattle.grammar.proofs.laws.RunOf.{run_off}
 use Rattle.grammar.proofs.laws.TokOf.{kind_sign, kind_word, kind_number}

@@ -9,12 +9,10 @@ use lib.Dec.{eqb, ltb}
 use lib.ListN.{length, get_or}
 use borrow.Author.Tests.{eq-eqb, eqb-true, eqb-false, lt-leb, ltb-true, ltb-false, lt-ltb}
 use Rattle.table.proofs.laws.Lists.{both, never}
-use Rattle.grammar.specs.Token.{one_of, token}
+use Rattle.grammar.specs.Token.{Token, one_of, token}
 use Rattle.grammar.specs.inner.Scanner.{signs, is_space, is_dot, class_of, run_end, dots_token, begin_at, token_at}
 use Rattle.text.specs.inner.Recursive.{step_answer, unexpected_at, passed, expect_at, is_at, next_token, next_of, next_at}
-use Rattle.grammar.specs.declared.token.Token.{Token}
-use Rattle.text.specs.declared.step.Next.{Next}
-use Rattle.text.specs.declared.step.Step.{Step}
+use Rattle.text.specs.inner.Answers.{Step, Next}
 use Rattle.grammar.proofs.laws.ClassOf.{sign_class}
 use Rattle.grammar.proofs.laws.RunOf.{run_on, run_off, run_out}
 use Rattle.text.proofs.laws.FieldsAt.{no_zero}

@@ -14,11 +14,8 @@ use Rattle.grammar.specs.Number.{signed_in, offset, in_kind}
 use Rattle.grammar.specs.Building.{labelled, field_added, denied, Built}
 use Rattle.grammar.specs.Reading.{Item, just, fields, field, low, high, more_fields, Open, state, next_item, within_limits, kind_of, a_field}
 use Rattle.text.specs.inner.Recursive.{step_answer, unexpected_at, passed, expect_at, bound_made, bounded, bound_at, range, after_step, after_bound, range_at, no_fields, with_field, placed, with_range, fielded, read_field, end_of_field, field_then, fields_from, fields_at, branch_of, then_read, with_fields}
-use Rattle.grammar.specs.declared.token.Token.{Token}
-use Rattle.text.specs.declared.step.Step.{Step}
-use Rattle.text.specs.declared.field.Bound.{Bound}
-use Rattle.text.specs.declared.field.Range.{Range}
-use Rattle.text.specs.declared.field.Fields.{Fields}
+use Rattle.grammar.specs.Token.{Token}
+use Rattle.text.specs.inner.Answers.{Step, Bound, Range, Fields}
 use Rattle.text.proofs.laws.Listed.{Clear, listed_length, with_listed, none_clear, placed_clear, field_clear}
 use Rattle.text.proofs.laws.Moved.{at, moved, at_token}
 use Rattle.text.proofs.laws.Taken.{wrong, sign_step, field_step, fields_step, more_fields_step, low_step, high_step}
@@ -114,17 +111,21 @@ module _ (s : List ℕ) (O : List Open) (T : Table) where
       ∙ ap (then_read (expect_at s r 58)) (fun_ext (λ t.
       high_law κ l (just 93 ∷ more_fields ∷ K) b t
       ∙ ap (on_bound (bound_at s t κ l)) (fun_ext (λ u. fun_ext (λ h.
-      plain 93 (more_fields ∷ K) (field_added b κ l h) u (λ x. omega arith) (λ x. omega arith) (λ h. rw h))))
-      ∙ sym (bound_range (bound_at s t κ l) (λ u h. range (expect_at s u 93).question (expect_at s u 93).at l h) G)))
-      ∙ sym (step_range (expect_at s r 58) (λ t. after_bound (bound_at s t κ l) (λ u h. range (expect_at s u 93).question (expect_at s u 93).at l h)) G))))
+      plain 93 (more_fields ∷ K) (field_added b κ l h) u (λ x. omega arith) (λ x. omega arith) (λ h. rw h)
+      ∙ sym (step_range (expect_at s u 93) (λ v. range 0 v l h) G))))
+      ∙ sym (bound_range (bound_at s t κ l) (closed l) G)))
+      ∙ sym (step_range (expect_at s r 58) (λ t. after_bound (bound_at s t κ l) (closed l)) G))))
       ∙ sym (bound_range (bound_at s q κ 0) R G)))
       ∙ sym (step_range (expect_at s p 91) (λ q. after_bound (bound_at s q κ 0) R) G)
     where
       G : ℕ → ℕ → ℕ → Built
       G q l h = at s (state (more_fields ∷ K) O (field_added b κ l h) T) q
 
+      closed : ℕ → ℕ → ℕ → Range
+      closed l u h = after_step (expect_at s u 93) (λ v. range 0 v l h)
+
       R : ℕ → ℕ → Range
-      R r l = after_step (expect_at s r 58) (λ t. after_bound (bound_at s t κ l) (λ u h. range (expect_at s u 93).question (expect_at s u 93).at l h))
+      R r l = after_step (expect_at s r 58) (λ t. after_bound (bound_at s t κ l) (closed l))
 
 -- fields that were read, and those after them
 range_fields : (r : Range) (f : Fields) (κ : ℕ) (g : Fields → Built) → f.question ≡ 0

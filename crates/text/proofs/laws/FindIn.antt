@@ -1,6 +1,7 @@
 -- The loops over bindings and branches, a turn at a time. Assumes nothing.
 use mathlib.Core.Path.{◌≡◌, refl, sym, ap, ap₂, subst, ◌∙◌}
-use mathlib.Core.Bool.{Bool, true, false, cond}
+use mathlib.Core.Bool.{Bool, true, false, cond, ◌&&◌, ◌||◌}
+use Rattle.std.specs.List.{list_any, range_with_len}
 use mathlib.Core.List.{List}
 use mathlib.Core.Option.{none, some}
 use Prim.Native.Nat.{ℕ, zero, suc, ◌+◌, ◌-◌, ◌*◌, ◌≤◌, ◌<◌, zero-le}
@@ -8,21 +9,20 @@ use native.Mathlib.Nat.{not-suc-le-zero, add-zero}
 use native.Mathlib.Numerals.{add-one}
 use native.Mathlib.Omega.{arith}
 use lib.Dec.{leb, ltb, eqb}
-use lib.ListN.{get_or}
-use borrow.Author.Tests.{eq-eqb, ne_eqb, le-leb, lt-leb, ltb-true, ltb-false}
+use borrow.Author.Tests.{eq-eqb, ne_eqb, le-leb, lt-leb, leb-true, leb-false, ltb-true, ltb-false}
 use Rattle.table.specs.Lists.{upto}
 use Rattle.table.specs.Table.{of_choice, shares_right}
 use Rattle.table.specs.View.{owner_at, word_at, share_at, branch_at}
 use Rattle.table.specs.Sound.{added}
 use Rattle.table.specs.inner.Scans.{weight_of, weights, right_sum}
-use Rattle.table.proofs.laws.Lists.{right_fails, refuted, never}
-use Rattle.table.proofs.laws.SharesRight.{shares_of, sum_right, right_most}
+use Rattle.table.proofs.laws.Lists.{refuted, never}
+use Rattle.table.proofs.laws.SharesRight.{shares_of, sum_right, right_most, weight_none, weight_some}
 use Rattle.text.specs.inner.Stores.{any_label}
-use Rattle.text.specs.inner.Recursive.{Env, name_in, find_in, since_in}
+use Rattle.text.specs.inner.Recursive.{Env, binding, name_in, find_in, since_in}
 
 -- the bindings below i, from the last on
 module _ (e : Env) where
-  pub find_hit : (i x : ℕ) → 0 < i → name_in e (i - 1) ≡ x → find_in e i x ≡ some (get_or e (1 + (i - 1)) 0)
+  pub find_hit : (i x : ℕ) → 0 < i → name_in e (i - 1) ≡ x → find_in e i x ≡ some (binding e (i - 1)).state
   unfolding find_in
   find_hit zero x h f = absurd (omega arith)
   find_hit (suc i) x h f = let z : suc i - 1 ≡ i = omega arith in rw (z, eq-eqb _ _ (rw z at f))
@@ -37,43 +37,47 @@ module _ (e : Env) where
   find_out zero x h = refl
   find_out (suc i) x h = absurd (omega arith)
 
-  pub since_hit : (g i x : ℕ) → g < i → name_in e (i - 1) ≡ x → since_in e g i x ≡ true
-  unfolding since_in
-  since_hit g zero x h f = absurd (omega arith)
-  since_hit g (suc i) x h f = let z : suc i - 1 ≡ i = omega arith in rw (le-leb g i (omega arith), eq-eqb _ _ (rw z at f))
+-- a test of the numbers from a on, with the last of them first
+any_last : (f : ℕ → Bool) (a n : ℕ) → list_any f (range_with_len a (suc n)) ≡ (f (a + n) || list_any f (range_with_len a n))
+any_last f a zero = ap (λ k. f k || false) (sym (add-zero a))
+any_last f a (suc n) =
+    ap (λ b. f a || b) (any_last f (a + 1) n)
+    ∙ swap (f a) (f (a + 1 + n)) (list_any f (range_with_len (a + 1) n))
+    ∙ ap (λ k. f k || (f a || list_any f (range_with_len (a + 1) n))) (omega arith)
+  where
+    swap : (x y z : Bool) → (x || (y || z)) ≡ (y || (x || z))
+    swap true true z = refl
+    swap true false z = refl
+    swap false true z = refl
+    swap false false z = refl
 
-  pub since_on : (g i x : ℕ) → g < i → (name_in e (i - 1) ≡ x → ⊥) → since_in e g i x ≡ since_in e g (i - 1) x
-  unfolding since_in
-  since_on g zero x h f = absurd (omega arith)
-  since_on g (suc i) x h f = let z : suc i - 1 ≡ i = omega arith in rw (z, le-leb g i (omega arith), ne_eqb _ _ (rw z at f))
+pub any_labels : (t : List ℕ) (o l n : ℕ) → list_any (λ k. eqb (owner_at t k) o && eqb (word_at t k) l) (range_with_len 0 n) ≡ any_label t n o l
+unfolding any_label
+any_labels t o l zero = refl
+any_labels t o l (suc n) =
+    let f : ℕ → Bool = λ k. eqb (owner_at t k) o && eqb (word_at t k) l in
+    any_last f 0 n ∙ ap₂ ◌||◌ (ap f (omega arith)) (any_labels t o l n)
 
-  pub since_out : (g i x : ℕ) → i ≤ g → since_in e g i x ≡ false
-  unfolding since_in
-  since_out g zero x h = refl
-  since_out g (suc i) x h = rw (lt-leb g i (omega arith))
-
--- the branches below i, from the last on
-module _ (t : List ℕ) (o l : ℕ) where
-  pub any_hit : (i : ℕ) → 0 < i → owner_at t (i - 1) ≡ o → word_at t (i - 1) ≡ l → any_label t i o l ≡ true
-  unfolding any_label
-  any_hit zero h e f = absurd (omega arith)
-  any_hit (suc i) h e f = let z : suc i - 1 ≡ i = omega arith in rw (eq-eqb _ _ (rw z at e), eq-eqb _ _ (rw z at f))
-
-  pub any_label_is : (i : ℕ) → 0 < i → (word_at t (i - 1) ≡ l → ⊥) → any_label t i o l ≡ any_label t (i - 1) o l
-  unfolding any_label
-  any_label_is zero h f = absurd (omega arith)
-  any_label_is (suc i) h f =
-      let z : suc i - 1 ≡ i = omega arith in rw (z, ne_eqb _ _ (rw z at f), right_fails _ refl)
-
-  pub any_owner : (i : ℕ) → 0 < i → (owner_at t (i - 1) ≡ o → ⊥) → any_label t i o l ≡ any_label t (i - 1) o l
-  unfolding any_label
-  any_owner zero h e = absurd (omega arith)
-  any_owner (suc i) h e = let z : suc i - 1 ≡ i = omega arith in rw (z, ne_eqb _ _ (rw z at e))
-
-  pub any_out : (i : ℕ) → i ≤ 0 → any_label t i o l ≡ false
-  unfolding any_label
-  any_out zero h = refl
-  any_out (suc i) h = absurd (omega arith)
+pub any_since : (e : Env) (g x n : ℕ) → list_any (λ i. eqb (name_in e i) x) (range_with_len g (n - g)) ≡ since_in e g n x
+unfolding since_in
+any_since e g x zero = let d : 0 - g ≡ 0 = omega arith in rw d refl
+any_since e g x (suc n) = go (leb g n) refl (any_since e g x n)
+  where
+    go : (b : Bool) → leb g n ≡ b → list_any (λ i. eqb (name_in e i) x) (range_with_len g (n - g)) ≡ since_in e g n x
+        → list_any (λ i. eqb (name_in e i) x) (range_with_len g (suc n - g)) ≡ cond b (cond (eqb (name_in e n) x) true (since_in e g n x)) false
+    go true q r =
+        let l : g ≤ n = leb-true _ _ q in
+        let d : suc n - g ≡ suc (n - g) = omega arith in
+        let m : g + (n - g) ≡ n = omega arith in
+        rw (d, any_last (λ i. eqb (name_in e i) x) g (n - g), m, r) (either (eqb (name_in e n) x) (since_in e g n x))
+      where
+        either : (t u : Bool) → (t || u) ≡ cond t true u
+        either true u = refl
+        either false u = refl
+    go false q r =
+        let l : n < g = leb-false _ _ q in
+        let d : suc n - g ≡ 0 = omega arith in
+        rw d refl
 
 -- the owner's branches among the first k: no share is above 1000, and what they add to
 pub record Adds (t : List ℕ) (o k sum : ℕ) : Type 0 where
@@ -124,3 +128,6 @@ pub adds_over : (t : List ℕ) (o k n : ℕ) → k < n → owner_at t k ≡ o �
     → shares_right (of_choice o (upto n (branch_at t)) (upto n (share_at t))) ≡ false
 adds_over t o k n l e h =
     refuted (shares_right (shares_of t n o)) (λ r. never (right_most t n o r k l e) (lt-leb (share_at t k) 1000 h))
+
+-- a branch more
+pub ruleset adding = (adds_none, adds_other, adds_one, adds_over, weight_none, weight_some)

@@ -8,12 +8,9 @@ use Rattle.table.specs.Table.{Table}
 use Rattle.grammar.specs.Building.{add_branch, add_share, Built, came, denied}
 use Rattle.grammar.specs.inner.Holds.{Holds}
 use Rattle.text.specs.inner.Recursive.{Gives, step_answer, unexpected_at, fields_at, shared_at, label_at, branch_of, body_at, headed, head_at, unless}
-use Rattle.grammar.specs.declared.token.Token.{Token}
+use Rattle.grammar.specs.Token.{Token}
 use Rattle.grammar.specs.inner.Scanner.{token_at}
-use Rattle.text.specs.declared.step.Step.{Step}
-use Rattle.text.specs.declared.field.Fields.{Fields}
-use Rattle.text.specs.declared.count.Counted.{Counted}
-use Rattle.text.specs.declared.step.Name.{Name}
+use Rattle.text.specs.inner.Answers.{Step, Name, Counted, Fields}
 use Rattle.text.proofs.laws.FieldsAt.{no_zero}
 
 -- a refusal; at a token that the grammar does not allow; a reading

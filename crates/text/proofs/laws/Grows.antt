@@ -10,16 +10,12 @@ use lib.ListN.{length, length-append}
 use lib.Dec.{eqb, leb}
 use borrow.Author.Tests.{eqb-true, eqb-false, leb-false}
 use Rattle.table.specs.Table.{Branch, Table}
-use Rattle.grammar.specs.Token.{word_in}
+use Rattle.grammar.specs.Token.{Token, word_in}
 use Rattle.grammar.specs.inner.Scanner.{token_at}
 use Rattle.grammar.specs.Building.{add_state, add_branch, add_share, choice_right, came, denied, Built}
 use Rattle.grammar.specs.Reading.{sign_of, choice_sort}
 use Rattle.text.specs.inner.Recursive.{unexpected_at, expect_at, fields_at, shared_at, bound_in, bind_in, find, since, open_rec, label_at, branch_of, then_read, with_fields, with_count, body_at, headed, head_at, aim_last, name_used, name_type, end_type, open_choice, Reader, unless, end_of_branch, branch_then, branches_read, choice_type, rec_type, read_type, Env}
-use Rattle.grammar.specs.declared.token.Token.{Token}
-use Rattle.text.specs.declared.step.Step.{Step}
-use Rattle.text.specs.declared.field.Fields.{Fields}
-use Rattle.text.specs.declared.count.Counted.{Counted}
-use Rattle.text.specs.declared.step.Name.{Name}
+use Rattle.text.specs.inner.Answers.{Step, Name, Counted, Fields}
 use Rattle.text.proofs.laws.Stores.{last_length}
 use Rattle.text.proofs.laws.Recursive.{at_end, at_name, at_rec, at_rec_full, at_choice, at_choice_full, at_other}
 use Rattle.grammar.proofs.laws.GrammarAllows.{First, first, first_end, first_name, first_rec, first_choice, first_other}

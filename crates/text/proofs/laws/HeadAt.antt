@@ -11,7 +11,7 @@ use borrow.Author.Tests.{eq-eqb, ne_eqb, eqb-true, eqb-false, le-leb, lt-leb}
 use Rattle.table.specs.Lists.{upto}
 use Rattle.table.specs.Table.{Table, of_choice, shares_right}
 use Rattle.table.specs.View.{states_of, branches_of, branch_at, share_at, view}
-use Rattle.grammar.specs.Token.{word_in}
+use Rattle.grammar.specs.Token.{Token, word_in}
 use Rattle.grammar.specs.inner.Scanner.{token_at}
 use Rattle.grammar.specs.Building.{add_state, add_branch, add_share, label_used, choice_right}
 use Rattle.grammar.specs.Filled.{code_of}
@@ -19,11 +19,7 @@ use Rattle.text.specs.inner.Stores.{put_state, put_branch, put_target, any_label
 use Rattle.grammar.specs.Reading.{choice_sort}
 use Rattle.grammar.specs.inner.Holds.{Holds}
 use Rattle.text.specs.inner.Recursive.{Gives, step_answer, unexpected_at, expect_at, fields_at, shared_at, find, since, name_read, label_from, label_at, branch_of, raw_of, body_at, headed, head_at, aim_last, name_type, end_type, open_choice, Env}
-use Rattle.grammar.specs.declared.token.Token.{Token}
-use Rattle.text.specs.declared.step.Step.{Step}
-use Rattle.text.specs.declared.field.Fields.{Fields}
-use Rattle.text.specs.declared.count.Counted.{Counted}
-use Rattle.text.specs.declared.build.Branch.{Branch}
+use Rattle.text.specs.inner.Answers.{Step, Name, Counted, Fields, Raw}
 use Rattle.text.proofs.laws.FieldsAt.{no_zero}
 use Rattle.text.proofs.laws.ExpectAt.{expect_yes, expect_no}
 use Rattle.grammar.proofs.laws.Packed.{Label}
@@ -32,7 +28,6 @@ use Rattle.text.proofs.laws.Listed.{Clear, fields_clear}
 use Rattle.grammar.proofs.laws.Holds.{holds_states, holds_branches, view_holds}
 use Rattle.text.proofs.laws.Stores.{holds_state, holds_branch, holds_target, holds_label}
 use Rattle.text.proofs.laws.Gives.{gives_refused, gives_wrong, gives_read, head_read}
-use Rattle.text.specs.declared.step.Name.{Name}
 use Rattle.table.specs.Table as S
 
 -- a name that was read as a label is legal
@@ -192,7 +187,7 @@ module _ (w : List ℕ) (T : Table) (H : Holds w T) where
                 gives_refused _ r v x.question x.at
                 (rw (eq-eqb _ _ sign, lt-leb _ _ (branches_room h), ← labelled_so, eq-eqb _ _ l_read, ← f_is, eq-eqb _ _ f_read, ← x_is, ne_eqb _ _ z)) g z
 
-            pub head_done : (b : Branch) (r : Step) (v : List ℕ) → x.question ≡ 0
+            pub head_done : (b : Raw) (r : Step) (v : List ℕ) → x.question ≡ 0
                 → b ≡ raw_of l.word o (states_of w) x.number f → v ≡ put_branch w b → r ≡ step_answer 0 x.at → Gives (head_at s p σ o T) r v
             head_done b r v z b_is v_is g =
                 let n = length T.sorts in

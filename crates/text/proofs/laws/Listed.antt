@@ -14,9 +14,8 @@ use Rattle.grammar.specs.inner.Scanner.{token_at}
 use Rattle.grammar.specs.Filled.{padded}
 use Rattle.grammar.specs.Reading.{kind_of}
 use Rattle.text.specs.inner.Recursive.{unexpected_at, expect_at, range_at, no_fields, with_field, placed, with_range, fielded, read_field, end_of_field, field_then, fields_from, fields_at, field_no, listed}
-use Rattle.grammar.specs.declared.token.Token.{Token}
-use Rattle.text.specs.declared.field.Range.{Range}
-use Rattle.text.specs.declared.field.Fields.{Fields}
+use Rattle.grammar.specs.Token.{Token}
+use Rattle.text.specs.inner.Answers.{Range, Fields}
 use Rattle.grammar.proofs.laws.Holds.{no_field}
 use Rattle.grammar.proofs.laws.Padded.{map_append, next_set, padded_at, upto_list, upto_length}
 

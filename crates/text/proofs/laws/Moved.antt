@@ -11,7 +11,7 @@ use Rattle.grammar.proofs.laws.Questions.{asked}
 use Rattle.grammar.specs.inner.Scanner.{token_at, tokens_from}
 use Rattle.grammar.specs.Building.{denied, Built}
 use Rattle.grammar.specs.Reading.{State, taken, run_tokens}
-use Rattle.grammar.specs.declared.token.Token.{Token}
+use Rattle.grammar.specs.Token.{Token}
 use Rattle.grammar.proofs.laws.TokenAt.{onward}
 
 -- any two counts that suffice give the same tokens

@@ -8,15 +8,16 @@ use native.Mathlib.Nat.{le_refl, le_trans}
 use native.Mathlib.Numerals.{add-one}
 use native.Mathlib.Omega.{arith}
 use lib.Dec.{leb, ltb, eqb}
-use lib.ListN.{length, drop, get_or, drop_of_length-le}
+use lib.ListN.{length, drop, take, get_or, drop_of_length-le}
+use lib.Pointwise.{pointwise}
+use Rattle.std.specs.Prelude.{nat_eq}
 use lib.Seq.{drop-cons}
-use borrow.Author.Tests.{eq-eqb, ne_eqb, ltb-false, le-leb, lt-leb, le-ltb, leb-true, leb-false}
+use borrow.Author.Tests.{ne_eqb, ltb-false, le-leb, lt-leb, le-ltb, leb-true, leb-false}
 use Rattle.table.specs.Table.{legal_field, within_kind, known_edition}
 use Rattle.table.proofs.laws.Lists.{join, never, left_fails, right_fails}
 use Rattle.grammar.specs.Number.{Signed, signed_of, value_of, offset, in_kind, in_count, in_edition}
 use Rattle.text.specs.inner.Recursive.{number_answer, number_read, no_fields, read_field, field_then, fields_from}
-use Rattle.text.specs.declared.number.Number.{Number}
-use Rattle.text.specs.declared.field.Fields.{Fields}
+use Rattle.text.specs.inner.Answers.{Fields, Number}
 
 value_ge : (l : List ℕ) (v : ℕ) → v ≤ value_of v l
 unfolding value_of
@@ -28,17 +29,19 @@ cut : (l k : List ℕ) (u v : ℕ) → 8589934592 ≤ u → 8589934592 ≤ v →
 cut l k u v g h = omega (arith, value_ge l u, value_ge k v)
 
 pub value_on : (w : List ℕ) (v i : ℕ) → i < length w
-    → min (value_of v (drop i w)) 8589934592 ≡ min (value_of (cond (ltb v 8589934592) (v * 10 + (get_or w i 0 - 48)) v) (drop (i + 1) w)) 8589934592
+    → min (value_of v (drop i w)) 8589934592 ≡ min (value_of (min (v * 10 + (get_or w i 0 - 48)) 8589934592) (drop (i + 1) w)) 8589934592
 unfolding value_of
-value_on w v i h = rw (drop-cons w i 0 h, add-one i) (go (ltb v 8589934592) refl)
+value_on w v i h = rw (drop-cons w i 0 h, add-one i) (go (leb u 8589934592) refl)
   where
-    b : ℕ
-    b = get_or w i 0
+    u : ℕ
+    u = v * 10 + (get_or w i 0 - 48)
 
-    go : (t : Bool) → ltb v 8589934592 ≡ t
-        → min (value_of (v * 10 + (b - 48)) (drop (suc i) w)) 8589934592 ≡ min (value_of (cond t (v * 10 + (b - 48)) v) (drop (suc i) w)) 8589934592
-    go true e = refl
-    go false e = let g : 8589934592 ≤ v = ltb-false _ _ e in cut (drop (suc i) w) (drop (suc i) w) (v * 10 + (b - 48)) v (omega arith) g
+    go : (t : Bool) → leb u 8589934592 ≡ t
+        → min (value_of u (drop (suc i) w)) 8589934592 ≡ min (value_of (min u 8589934592) (drop (suc i) w)) 8589934592
+    go true e = let l : u ≤ 8589934592 = leb-true _ _ e in let z : min u 8589934592 ≡ u = omega arith in rw z
+    go false e =
+        let g : 8589934592 < u = leb-false _ _ e in
+        cut (drop (suc i) w) (drop (suc i) w) u (min u 8589934592) (omega arith) (omega arith)
 
 pub value_out : (w : List ℕ) (v i : ℕ) → length w ≤ i → value_of v (drop i w) ≡ v
 unfolding value_of
@@ -162,18 +165,24 @@ edition_counts n = go n.minus n.value
         let k = suc (suc (suc v)) in
         rw (ne_eqb k 1 (λ e. omega arith), ne_eqb k 2 (λ e. omega arith)) (sym (right_fails (leb 1 k) (lt-leb k 2 (omega arith))))
 
--- a minus or none
-pub signed_none : (w : List ℕ) → length w ≡ 0 → signed_of w ≡ record { minus = false; value = 0 }
-unfolding signed_of
-signed_none [] h = refl
-signed_none (x ∷ w) h = absurd (omega arith)
+-- a minus before the digits, or none
+abbrev signed : Bool → ℕ → Signed
+signed m v = record { minus = m; value = v }
 
-pub signed_minus : (w : List ℕ) → (length w ≡ 0 → ⊥) → get_or w 0 0 ≡ 45 → signed_of w ≡ record { minus = true; value = value_of 0 (drop 1 w) }
+pub signed_stripped : (w : List ℕ) → pointwise nat_eq (take 1 w) (45 ∷ []) ≡ true → signed_of w ≡ record { minus = true; value = value_of 0 (drop 1 w) }
 unfolding signed_of
-signed_minus [] h e = absurd (h refl)
-signed_minus (x ∷ w) h e = rw (eq-eqb x 45 e)
+signed_stripped [] e = cc
+signed_stripped (b ∷ bs) e = go (eqb b 45) refl
+  where
+    go : (t : Bool) → eqb b 45 ≡ t → cond t (signed true (value_of 0 bs)) (signed false (value_of 0 (b ∷ bs))) ≡ signed true (value_of 0 bs)
+    go true f = refl
+    go false f = let x = rw f at e in cc
 
-pub signed_plain : (w : List ℕ) → (length w ≡ 0 → ⊥) → (get_or w 0 0 ≡ 45 → ⊥) → signed_of w ≡ record { minus = false; value = value_of 0 w }
-unfolding signed_of
-signed_plain [] h e = absurd (h refl)
-signed_plain (x ∷ w) h e = rw (ne_eqb x 45 e)
+pub signed_whole : (w : List ℕ) → pointwise nat_eq (take 1 w) (45 ∷ []) ≡ false → signed_of w ≡ record { minus = false; value = value_of 0 w }
+unfolding signed_of value_of
+signed_whole [] e = refl
+signed_whole (b ∷ bs) e = go (eqb b 45) refl
+  where
+    go : (t : Bool) → eqb b 45 ≡ t → cond t (signed true (value_of 0 bs)) (signed false (value_of 0 (b ∷ bs))) ≡ signed false (value_of 0 (b ∷ bs))
+    go true f = let x = rw f at e in cc
+    go false f = refl

@@ -15,9 +15,8 @@ use Rattle.grammar.specs.Filled.{came_out, filled, written}
 use Rattle.grammar.specs.Reading.{run_tokens, start, built, reads}
 use Rattle.grammar.specs.inner.Holds.{Holds}
 use Rattle.text.specs.inner.Recursive.{Gives, step_answer, unexpected_at, empty_env, unless, read_type, count_from, edition_at, opening_from, opening_of, end_of_text, read_text, Env}
-use Rattle.grammar.specs.declared.token.Token.{Token}
-use Rattle.text.specs.declared.step.Step.{Step}
-use Rattle.text.specs.declared.count.Counted.{Counted}
+use Rattle.grammar.specs.Token.{Token}
+use Rattle.text.specs.inner.Answers.{Step, Counted}
 use Rattle.text.proofs.laws.ReadType.{answered_text}
 use Rattle.grammar.proofs.laws.RunTokens.{run_refused}
 use Rattle.text.proofs.laws.Gives.{gives_refused, gives_wrong, gives_read, gives_by, unless_read, unless_refused}

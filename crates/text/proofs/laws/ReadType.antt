@@ -13,18 +13,14 @@ use lib.ListN.{length, length-append}
 use borrow.Author.Tests.{eqb-true, eqb-false, leb-true, leb-false, ltb-true, ltb-false, lt-ltb, le-ltb, le-leb, lt-leb}
 use Rattle.table.specs.Lists.{first_no}
 use Rattle.table.specs.Table.{Table, Branch}
-use Rattle.grammar.specs.Token.{word_in}
+use Rattle.grammar.specs.Token.{Token, word_in}
 use Rattle.grammar.specs.inner.Scanner.{token_at, tokens}
 use Rattle.grammar.specs.Grammar.{or_else}
 use Rattle.grammar.specs.Number.{signed_in, in_count}
 use Rattle.grammar.specs.Building.{stateless, set_edition, empty_branch, labelled, aimed, add_state, add_branch, add_share, label_used, choice_right, came, denied, Built}
 use Rattle.grammar.specs.Reading.{Item, edition, just, name, label, type, more, fields, dot, Open, a_rec, a_choice, State, state, meaning, unguarded, closed, token_formed, grammar_allows, edition_known, is_found, name_bound, guarded, ranged, share_ranged, new_label, within_limits, shares_add, sign_of, choice_sort, a_branch, stored, taken, run_tokens, start, built, questions}
-use Rattle.text.specs.inner.Recursive.{count_read, count_from, edition_at, opening_from, opening_of, label_from, name_read, unexpected_at, expect_at, fields_at, shared_at, empty_env, Room, bound_in, bind_in, find_in, find, since_in, since, rec_named, open_rec, label_at, branch_of, then_read, with_fields, with_count, body_at, headed, head_at, last_aimed, aim_last, name_used, name_type, end_type, open_choice, unless, end_of_branch, branch_then, branches_read, choice_type, rec_type, read_type, end_of_text, read_text, Env}
-use Rattle.grammar.specs.declared.token.Token.{Token}
-use Rattle.text.specs.declared.step.Step.{Step}
-use Rattle.text.specs.declared.field.Fields.{Fields}
-use Rattle.text.specs.declared.count.Counted.{Counted}
-use Rattle.text.specs.declared.step.Name.{Name}
+use Rattle.text.specs.inner.Recursive.{count_read, count_from, edition_at, opening_from, opening_of, label_from, name_read, name_then, unexpected_at, expect_at, fields_at, shared_at, empty_env, Room, bound_in, bind_in, find_in, find, since_in, since, rec_named, open_rec, label_at, branch_of, then_read, with_fields, with_count, body_at, headed, head_at, last_aimed, aim_last, name_used, name_type, end_type, open_choice, unless, end_of_branch, branch_then, branches_read, choice_type, rec_type, read_type, end_of_text, read_text, Env}
+use Rattle.text.specs.inner.Answers.{Step, Name, Counted, Fields}
 use Rattle.text.proofs.laws.Env.{bind_find, bind_count, bind_since, since_now, room_empty, room_bind, room_less}
 use Rattle.text.proofs.laws.Recursive.{at_end, at_name, at_rec, at_rec_full, at_choice, at_choice_full, at_other}
 use Rattle.grammar.proofs.laws.GrammarAllows.{First, first, first_end, first_name, first_rec, first_choice, first_other}
@@ -341,7 +337,7 @@ module _ (d : ℕ) (s : List ℕ) (down : (d ≡ 0 → ⊥) → TypeLaw (d - 1) 
       x = expect_at s j.end 46
 
       answer : Bool → Name
-      answer y = cond y (name_read x.question x.at n) (name_read (unexpected_at j).question (unexpected_at j).at 0)
+      answer y = cond y (name_then x n) (name_read (unexpected_at j).question (unexpected_at j).at 0)
 
       P : List Open
       P = a_rec n (length W.sorts) ∷ O
@@ -358,7 +354,7 @@ module _ (d : ℕ) (s : List ℕ) (down : (d ≡ 0 → ⊥) → TypeLaw (d - 1) 
       go : (y c : Bool) → eqb x.question 0 ≡ c → cond y (at s (state (just 46 ∷ type ∷ K) P b T) j.end) (wrong j)
           ≡ unless (rec_type (read_type (d - 1) s) (answer y) g e W) (goes s K O)
       go true true h = inner ∙ rw h
-      go true false h = inner ∙ rw (h, h)
+      go true false h = inner ∙ rw (h, h, h)
       go false c h = rw (no_zero j, no_zero j)
 
   choice_law : (z : d ≡ 0 → ⊥) → OneOf (38 ∷ 43 ∷ []) k.kind

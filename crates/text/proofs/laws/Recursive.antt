@@ -9,7 +9,7 @@ use Rattle.table.specs.Table.{Table}
 use Rattle.grammar.specs.inner.Scanner.{token_at}
 use Rattle.grammar.specs.Building.{denied}
 use Rattle.text.specs.inner.Recursive.{unexpected_at, open_rec, name_type, end_type, Reader, branch_then, branches_read, choice_type, rec_type, type_by, read_type, Env}
-use Rattle.grammar.specs.declared.token.Token.{Token}
+use Rattle.grammar.specs.Token.{Token}
 use types.Run.{OneOf}
 
 -- the reader one level down

@@ -10,9 +10,9 @@ use Rattle.grammar.specs.inner.Scanner.{token_at}
 use Rattle.grammar.specs.Number.{signed_in, in_share}
 use Rattle.grammar.specs.Building.{add_share, denied, Built}
 use Rattle.grammar.specs.Reading.{Item, just, dot, share, Open, state, within_limits}
-use Rattle.text.specs.inner.Recursive.{step_answer, unexpected_at, passed, expect_at, count_read, share_from, count_from, then_dot, dotted, shared_at, then_read, with_count}
-use Rattle.grammar.specs.declared.token.Token.{Token}
-use Rattle.text.specs.declared.count.Counted.{Counted}
+use Rattle.text.specs.inner.Recursive.{step_answer, unexpected_at, passed, expect_at, count_read, count_then, share_from, count_from, then_dot, dotted, shared_at, then_read, with_count}
+use Rattle.grammar.specs.Token.{Token}
+use Rattle.text.specs.inner.Answers.{Step, Counted}
 use Rattle.text.proofs.laws.Moved.{at, at_token}
 use Rattle.text.proofs.laws.Taken.{wrong, dot_step, share_step}
 use Rattle.text.proofs.laws.FieldsAt.{plain, no_zero}
@@ -21,6 +21,14 @@ pub dot_law : (s : List ℕ) (K : List Item) (O : List Open) (b : Branch) (T : T
     → at s (state (just 46 ∷ K) O b T) p ≡ then_read (expect_at s p 46) (λ q. at s (state K O b T) q)
 unfolding within_limits
 dot_law s K O b T p = plain s O T 46 K b p (λ x. omega arith) (λ x. omega arith) (λ h. rw h)
+
+count_law : (a : Step) (n : ℕ) (f : Counted → Built) → then_read a (λ q. f (count_read 0 q n)) ≡ with_count (count_then a n) f
+count_law a n f = go (eqb a.question 0) refl
+  where
+    go : (x : Bool) → eqb a.question 0 ≡ x
+        → cond x (f (count_read 0 a.at n)) (denied a.question a.at) ≡ with_count (cond x (count_read 0 a.at n) (count_read a.question a.at 0)) f
+    go true e = refl
+    go false e = rw e
 
 module _ (s : List ℕ) (K : List Item) (O : List Open) (b : Branch) (T : Table) where
   goes : Counted → Built
@@ -38,7 +46,7 @@ module _ (s : List ℕ) (K : List Item) (O : List Open) (b : Branch) (T : Table)
 
       go : (x o : Bool) → cond x (cond o (at s (state (just 46 ∷ K) O b (add_share T n)) k.end) (denied 19 k.start)) (wrong k)
           ≡ with_count (then_dot s (cond x (cond o (count_read 0 k.end n) (count_read 19 k.start 0)) (count_read (unexpected_at k).question (unexpected_at k).at 0))) goes
-      go true true = dot_law s K O b (add_share T n) k.end
+      go true true = dot_law s K O b (add_share T n) k.end ∙ count_law (expect_at s k.end 46) n goes
       go true false = refl
       go false o = rw (no_zero k, no_zero k)
 

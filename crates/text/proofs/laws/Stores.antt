@@ -21,7 +21,7 @@ use Rattle.grammar.specs.Filled.{padded, code_of, label_high, label_low, fours, 
 use Rattle.text.specs.inner.Stores.{put_state, set_head, store_at, put_branch, put_target, any_label}
 use Rattle.grammar.specs.inner.Holds.{Formed, AllFormed, Holds, set_four}
 use Rattle.text.specs.inner.Recursive.{branch_of, raw_of, last_aimed, aim_last}
-use Rattle.text.specs.declared.field.Fields.{Fields}
+use Rattle.text.specs.inner.Answers.{Fields}
 use Rattle.grammar.proofs.laws.Padded.{map_append, next_set, padded_at, four_set}
 use Rattle.text.proofs.laws.Listed.{Clear, listed_length}
 use Rattle.grammar.proofs.laws.Packed.{Label}

@@ -10,13 +10,12 @@ use lib.ListN.{length}
 use borrow.Author.Tests.{ne_eqb, eqb-true, eqb-false, leb-true, leb-false, lt-ltb, le-ltb}
 use Rattle.table.specs.Lists.{first_no}
 use Rattle.table.specs.Table.{Table, Branch}
-use Rattle.grammar.specs.Token.{word_in}
+use Rattle.grammar.specs.Token.{Token, word_in}
 use Rattle.grammar.specs.Number.{signed_in, offset, in_kind, in_share, in_edition}
 use Rattle.grammar.specs.Grammar.{or_else}
 use Rattle.grammar.specs.Building.{empty_branch, labelled, field_added, set_edition, add_state, add_share, label_used, choice_right, denied, Built}
 use Rattle.grammar.specs.Reading.{Item, outset, edition, just, name, label, type, more, fields, field, low, high, more_fields, dot, share, Open, a_rec, a_choice, State, state, meaning, unguarded, owner_in, closed, left, token_formed, grammar_allows, admits, edition_known, is_found, name_bound, guarded, ranged, share_ranged, new_label, within_limits, shares_add, sign_of, choice_sort, kind_of, a_branch, a_field, target, stored, began, taken, questions}
 use Rattle.text.specs.inner.Recursive.{unexpected_at}
-use Rattle.grammar.specs.declared.token.Token.{Token}
 use Rattle.grammar.proofs.laws.Opening.{outset_same}
 use Rattle.text.proofs.laws.Moved.{at, moved, moved_at}
 use types.Run.{OneOf}

@@ -9,16 +9,13 @@ use lib.Dec.{eqb}
 use lib.ListN.{length}
 use borrow.Author.Tests.{eq-eqb, ne_eqb}
 use Rattle.table.specs.Table.{Table}
-use Rattle.grammar.specs.Token.{one_of}
+use Rattle.grammar.specs.Token.{Token, one_of}
 use Rattle.grammar.specs.inner.Scanner.{signs, token_at}
 use Rattle.grammar.specs.Building.{choice_right, Built}
 use Rattle.grammar.specs.Reading.{sign_of}
 use Rattle.grammar.specs.inner.Holds.{Holds}
 use Rattle.text.specs.inner.Recursive.{Gives, step_answer, next_at, open_rec, open_choice, head_at, Reader, unless, end_of_branch, branch_then, branches_read, choice_type, rec_type, read_type, read_branches, Env, bound_in, bind_in}
-use Rattle.grammar.specs.declared.token.Token.{Token}
-use Rattle.text.specs.declared.step.Step.{Step}
-use Rattle.text.specs.declared.step.Next.{Next}
-use Rattle.text.specs.declared.step.Name.{Name}
+use Rattle.text.specs.inner.Answers.{Step, Name, Next}
 use Rattle.text.proofs.laws.Gives.{gives_refused, gives_wrong, gives_read, gives_by, unless_read, unless_refused}
 use Rattle.text.proofs.laws.ExpectAt.{next_no, next_last, next_more}
 use Rattle.text.proofs.laws.Recursive.{at_rec, at_choice, turn}

@@ -1,29 +1,27 @@
 -- Reading by recursion: what the inner functions give at each place of a text. This need not be believed: a law joins it to
 -- `reads`, which is all that the call promises.
 -- Assumes nothing.
-use Rattle.std.specs.Prelude.{◌≡◌, Bool, true, false, ◌&&◌, cond, List, [], ◌∷◌, ℕ, zero, suc, ◌+◌, ◌/◌, ◌%◌, ◌≤◌, leb, ltb, eqb, length, set, get_or, replicate}
+use Rattle.std.specs.Prelude.{◌≡◌, Bool, true, false, ◌&&◌, cond, List, [], ◌∷◌, ℕ, zero, suc, ◌+◌, ◌/◌, ◌%◌, ◌≤◌, leb, ltb, eqb, length, set, get_or, map, replicate, Some, None, Result, Ok, Err}
+use Rattle.std.specs.Prelude as P
 use Rattle.std.proofs.Math.Option.{Option, none, some}
+use Rattle.table.specs.Question.{number}
 use Rattle.table.specs.Lists.{upto}
 use Rattle.table.specs.Table.{Field, Branch, Table, states_most, branches_most, fields_most, shares_sum}
-use Rattle.table.specs.View.{joined_label, label_of}
-use Rattle.grammar.specs.Token.{one_of, word_in}
+use Rattle.table.specs.View.{label_of}
+use Rattle.grammar.specs.Token.{Token, token, one_of, word_in}
 use Rattle.grammar.specs.inner.Scanner.{token_at}
 use Rattle.grammar.specs.Number.{Signed, signed_in, offset, in_kind, in_count}
 use Rattle.grammar.specs.Grammar.{text_limit, open_most}
 use Rattle.grammar.specs.Building.{aimed, stateless, add_state, add_branch, add_share, label_used, choice_right, Built, came, denied}
 use Rattle.grammar.specs.Reading.{sign_of, choice_sort, kind_of}
-use Rattle.grammar.specs.declared.token.Token.{Token}
-use Rattle.text.specs.declared.number.Number.{Number}
-use Rattle.text.specs.declared.step.Step.{Step}
-use Rattle.text.specs.declared.step.Name.{Name}
-use Rattle.text.specs.declared.step.Next.{Next}
-use Rattle.text.specs.declared.field.Bound.{Bound}
-use Rattle.text.specs.declared.field.Range.{Range}
-use Rattle.text.specs.declared.field.Fields.{Fields}
-use Rattle.text.specs.declared.count.Counted.{Counted}
-use Rattle.text.specs.declared.scope.Found.{Found}
-use Rattle.text.specs.declared.scope.Found.TheVariants.{At, Unbound}
-use Rattle.text.specs.declared.build.Branch as B
+use Rattle.text.specs.inner.Answers.{Step, Name, Next, Counted, Bound, Range, Fields, Raw, Number}
+use Rattle.text.specs.inner.Kinds.{number_of_kind}
+use Rattle.text.specs.declared.cursor.Refusal.{Refusal}
+use Rattle.text.specs.declared.kind.Token as T
+use Rattle.text.specs.declared.field.Fields as F
+use Rattle.text.specs.declared.field.Field as G
+use Rattle.text.specs.declared.scope.Binding.{Binding}
+use Rattle.text.specs.declared.scope.Env as E
 use Rattle.grammar.specs.inner.Holds.{Holds}
 use Rattle.table.specs.Table as S
 use Rattle.grammar.specs.Kind as K
@@ -37,14 +35,26 @@ pub record Gives (R : Built) (r : Step) (w : List ℕ) : Type 0 where
   pub at : r.at ≡ R.at
   pub table : r.question ≡ 0 → Holds w R.table
 
+abbrev pub step_answer : ℕ → ℕ → Step
+step_answer q at = record { question = q; at = at }
+
+abbrev pub refused : Refusal → Step
+refused r = step_answer (number r.question) r.at
+
+-- what the program answers, and the place that its cursor stands at then: the place to go on at, or a refusal
+abbrev pub told_step : {A : Type 0} → Result A Refusal → ℕ → Step
+told_step (Ok x) at = step_answer 0 at
+told_step (Err r) at = refused r
+
 -- what a function does to words that hold a table: it gives what R gives of the table
-abbrev pub Fills : (Table → Built) → List ℕ → Step → List ℕ → Type 0
-Fills R before r after = (T : Table) → Holds before T → Gives (R T) r after
+abbrev pub Fills : {A : Type 0} → (Table → Built) → List ℕ → Result A Refusal → ℕ → List ℕ → Type 0
+Fills R before r at after = (T : Table) → Holds before T → Gives (R T) (told_step r at) after
 
 -- ---- one token
 
-abbrev pub step_answer : ℕ → ℕ → Step
-step_answer q at = record { question = q; at = at }
+-- a token, as the program has it
+abbrev pub told_token : T.Token → Token
+told_token k = token (number_of_kind k.kind) k.start k.end
 
 -- a token that the grammar does not allow: 2 where it is malformed, else 3
 unfoldable pub unexpected_at : Token → Step
@@ -64,6 +74,10 @@ is_at s p b = ltb p (length s) && eqb (get_or s p 0) b
 abbrev pub next_token : ℕ → ℕ → Bool → Next
 next_token q at more = record { question = q; at = at; more = more }
 
+abbrev pub told_next : Result Bool Refusal → ℕ → Next
+told_next (Ok more) at = next_token 0 at more
+told_next (Err r) at = next_token (number r.question) r.at false
+
 -- after a part of a list: past the sign that closes it, or past a comma, after which there is more
 unfoldable pub next_of : Token → ℕ → Next
 next_of k close =
@@ -78,12 +92,20 @@ next_at s p close = next_of (token_at s p) close
 abbrev pub number_answer : Bool → ℕ → Number
 number_answer ok n = record { ok = ok; offset = n }
 
+abbrev pub told_number : P.Option ℕ → Number
+told_number (Some n) = number_answer true n
+told_number None = number_answer false 0
+
 -- a number in offset form, where it is within its kind
 unfoldable pub number_read : ℕ → Signed → Number
 number_read kind n = cond (in_kind kind n) (number_answer true (offset n)) (number_answer false 0)
 
 abbrev pub bound_made : ℕ → ℕ → ℕ → Bound
 bound_made q at n = record { question = q; at = at; offset = n }
+
+abbrev pub told_bound : Result ℕ Refusal → ℕ → Bound
+told_bound (Ok offset) at = bound_made 0 at offset
+told_bound (Err r) at = bound_made (number r.question) r.at 0
 
 -- one end of a range: 6 where it is not within its kind, or below the least
 unfoldable pub bounded : List ℕ → Token → ℕ → ℕ → Bound
@@ -100,6 +122,10 @@ bound_at s p kind least = bounded s (token_at s p) kind least
 abbrev pub range : ℕ → ℕ → ℕ → ℕ → Range
 range q at low high = record { question = q; at = at; low = low; high = high }
 
+abbrev pub told_range : Result (ℕ × ℕ) Refusal → ℕ → Range
+told_range (Ok r) at = range 0 at r.0 r.1
+told_range (Err r) at = range (number r.question) r.at 0 0
+
 -- goes on past a token, or an end of a range; else the whole is refused as it is
 abbrev pub after_step : Step → (ℕ → Range) → Range
 after_step a f = cond (eqb a.question 0) (f a.at) (range a.question a.at 0 0)
@@ -114,7 +140,8 @@ range_at s p kind =
     (λ q. after_bound (bound_at s q kind 0)
     (λ r low. after_step (expect_at s r K.dots)
     (λ t. after_bound (bound_at s t kind low)
-    (λ u high. range (expect_at s u (K.of "]")).question (expect_at s u (K.of "]")).at low high))))
+    (λ u high. after_step (expect_at s u (K.of "]"))
+    (λ v. range 0 v low high)))))
 
 unfoldable pub no_fields : ℕ → ℕ → Fields
 no_fields q at = record {
@@ -125,6 +152,17 @@ no_fields q at = record {
   lows = replicate 4 0;
   highs = replicate 4 0;
 }
+
+abbrev pub told_fields : Result F.Fields Refusal → ℕ → Fields
+told_fields (Ok f) at = record {
+  question = 0;
+  at = at;
+  count = f.count;
+  kinds = map (λ (x : G.Field). x.kind) f.list;
+  lows = map (λ (x : G.Field). x.low) f.list;
+  highs = map (λ (x : G.Field). x.high) f.list;
+}
+told_fields (Err r) at = no_fields (number r.question) r.at
 
 unfoldable pub with_field : Fields → ℕ → ℕ → ℕ → ℕ → Fields
 with_field f at kind low high = record {
@@ -187,6 +225,10 @@ fields_at s p =
 abbrev pub count_read : ℕ → ℕ → ℕ → Counted
 count_read q at n = record { question = q; at = at; number = n }
 
+abbrev pub told_count : Result ℕ Refusal → ℕ → Counted
+told_count (Ok n) at = count_read 0 at n
+told_count (Err r) at = count_read (number r.question) r.at 0
+
 -- a number from 1 to a limit; the question where it is another
 unfoldable pub count_from : ℕ → ℕ → List ℕ → Token → Counted
 count_from most q s k =
@@ -198,11 +240,13 @@ count_from most q s k =
 abbrev pub share_from : List ℕ → Token → Counted
 share_from s k = count_from shares_sum 19 s k
 
+-- a number that was read before a token
+abbrev pub count_then : Step → ℕ → Counted
+count_then a n = cond (eqb a.question 0) (count_read 0 a.at n) (count_read a.question a.at 0)
+
 -- and its dot
 unfoldable pub then_dot : List ℕ → Counted → Counted
-then_dot s w =
-    cond (eqb w.question 0)
-    (count_read (expect_at s w.at (K.of ".")).question (expect_at s w.at (K.of ".")).at w.number) w
+then_dot s w = cond (eqb w.question 0) (count_then (expect_at s w.at (K.of ".")) w.number) w
 
 -- after a branch's fields: @ share ., or .
 unfoldable pub dotted : List ℕ → Token → Counted
@@ -215,35 +259,38 @@ shared_at s p = dotted s (token_at s p)
 
 -- ---- names in scope
 
--- as the program has them: how many names are bound, the state of each, and each name in two words
+-- as the program has them
 abbrev pub Env : Type 0
-Env = List ℕ
+Env = E.Env
 
 abbrev pub bound_in : Env → ℕ
-bound_in e = get_or e 0 0
+bound_in e = e.count
+
+abbrev pub bind : ℕ → ℕ → Binding
+bind x n = record { name = x; state = n }
+
+abbrev pub binding : Env → ℕ → Binding
+binding e i = get_or e.bound i (bind 0 0)
 
 abbrev pub name_in : Env → ℕ → ℕ
-name_in e i = joined_label (get_or e (17 + i) 0) (get_or e (33 + i) 0)
+name_in e i = (binding e i).name
 
 unfoldable pub empty_env : Env
-empty_env = replicate 49 0
+empty_env = record { count = 0; bound = replicate 16 (bind 0 0) }
 
 -- there is room for d names more
 pub record Room (e : Env) (d : ℕ) : Type 0 where
-  pub long : length e ≡ 49
+  pub long : length e.bound ≡ 16
   pub count : bound_in e + d ≤ 16
 
 -- one name more, bound to a state
-unfoldable pub bind_at : Env → ℕ → ℕ → ℕ → Env
-bind_at e i x n = set (set (set (set e (1 + i) n) (17 + i) (x / 4294967296)) (33 + i) (x % 4294967296)) 0 (i + 1)
-
 unfoldable pub bind_in : Env → ℕ → ℕ → Env
-bind_in e x n = bind_at e (bound_in e) x n
+bind_in e x n = record { count = e.count + 1; bound = set e.bound e.count (bind x n) }
 
 -- the last of the first n bindings that has the name
 unfoldable pub find_in : Env → ℕ → ℕ → Option ℕ
 find_in e zero x = none
-find_in e (suc i) x = cond (eqb (name_in e i) x) (some (get_or e (1 + i) 0)) (find_in e i x)
+find_in e (suc i) x = cond (eqb (name_in e i) x) (some (binding e i).state) (find_in e i x)
 
 abbrev pub find : Env → ℕ → Option ℕ
 find e x = find_in e (bound_in e) x
@@ -257,19 +304,27 @@ abbrev pub since : Env → ℕ → ℕ → Bool
 since e g x = since_in e g (bound_in e) x
 
 -- what a search found
-unfoldable pub found : Found → Option ℕ
-found (At n) = some n
-found Unbound = none
+abbrev pub found : P.Option ℕ → Option ℕ
+found (Some n) = some n
+found None = none
 
 -- a name or a label that was read
 abbrev pub name_read : ℕ → ℕ → ℕ → Name
 name_read q at w = record { question = q; at = at; word = w }
 
+abbrev pub told_name : Result ℕ Refusal → ℕ → Name
+told_name (Ok word) at = name_read 0 at word
+told_name (Err r) at = name_read (number r.question) r.at 0
+
+-- a name that was read before a token
+abbrev pub name_then : Step → ℕ → Name
+name_then a w = cond (eqb a.question 0) (name_read 0 a.at w) (name_read a.question a.at 0)
+
 -- the name of a rec and its dot
 unfoldable pub rec_named : List ℕ → Token → Name
 rec_named s k =
     cond (eqb k.kind K.of_name)
-    (name_read (expect_at s k.end (K.of ".")).question (expect_at s k.end (K.of ".")).at (word_in s k))
+    (name_then (expect_at s k.end (K.of ".")) (word_in s k))
     (name_read (unexpected_at k).question (unexpected_at k).at 0)
 
 unfoldable pub open_rec : List ℕ → ℕ → Name
@@ -298,7 +353,7 @@ listed f = upto f.count (field_no f)
 abbrev pub branch_of : ℕ → ℕ → ℕ → Fields → Branch
 branch_of word owner target f = record { owner = owner; label = label_of word; fields = listed f; target = target }
 
-abbrev pub raw_of : ℕ → ℕ → ℕ → ℕ → Fields → B.Branch
+abbrev pub raw_of : ℕ → ℕ → ℕ → ℕ → Fields → Raw
 raw_of label owner target share f = record {
   label = label;
   owner = owner;

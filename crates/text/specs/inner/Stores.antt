@@ -4,14 +4,14 @@
 use Rattle.std.specs.Prelude.{Bool, false, ◌&&◌, ◌||◌, cond, List, ℕ, zero, suc, ◌+◌, ◌-◌, ◌*◌, ◌/◌, ◌%◌, leb, ltb, eqb, set}
 use Rattle.table.specs.View.{states_of, branches_of, owner_at, word_at}
 use Rattle.grammar.specs.inner.Holds.{set_four}
-use Rattle.text.specs.declared.build.Branch.{Branch}
+use Rattle.text.specs.inner.Answers.{Raw}
 
 -- a sort is a code: 0 end, 1 sends, 2 receives
 unfoldable pub put_state : List ℕ → ℕ → List ℕ
 put_state t sort = set (set t (2 + states_of t) sort) 0 (states_of t + 1)
 
 -- the six words of branch n, and the count
-unfoldable pub set_head : List ℕ → ℕ → Branch → List ℕ
+unfoldable pub set_head : List ℕ → ℕ → Raw → List ℕ
 set_head t n b =
     set
     (set (set (set (set (set (set t 1 (n + 1)) (34 + n) b.owner) (162 + n) b.target) (290 + n) b.count)
@@ -19,10 +19,10 @@ set_head t n b =
     (546 + n) (b.label % 4294967296))
     (2210 + n) b.share
 
-unfoldable pub store_at : List ℕ → ℕ → Branch → List ℕ
+unfoldable pub store_at : List ℕ → ℕ → Raw → List ℕ
 store_at t n b = set_four (set_four (set_four (set_head t n b) (674 + 4 * n) b.kinds) (1186 + 4 * n) b.lows) (1698 + 4 * n) b.highs
 
-unfoldable pub put_branch : List ℕ → Branch → List ℕ
+unfoldable pub put_branch : List ℕ → Raw → List ℕ
 put_branch t b = store_at t (branches_of t) b
 
 -- the target of the last branch, of 1 to 128
