@@ -1,15 +1,15 @@
 -- A scan's worth of messages together (document 02, request 2): single steps on the due messages, in turn, each given the rest of the
 -- other side's output.
 -- Assumes nothing.
-use Rattle.std.specs.Prelude.{Bool, ◌&&◌, cond, List, [], ◌∷◌, ◌++◌, ℕ, zero, suc, ◌+◌, length, take, drop, eqb}
+use Rattle.std.specs.Prelude.{Bool, ◌&&◌, cond, List, [], ◌∷◌, ◌++◌, ℕ, zero, suc, ◌+◌, length, take, drop, eqb, None, Some}
+use Rattle.std.specs.Prelude as Std
 use Rattle.std.proofs.Math.Option.{Option, none, some}
 use Rattle.table.specs.Lists.{first_no}
 use Rattle.table.specs.View.{Words, sound_at}
 use Rattle.table.specs.declared.Party.{Party}
 use Rattle.table.specs.declared.Party.TheVariants.{Device, Host}
 use Rattle.conversation.specs.declared.State.{State}
-use Rattle.conversation.specs.declared.batch.Last.{Last}
-use Rattle.conversation.specs.declared.batch.Last.TheVariants.{NoneDue, Answer}
+use Rattle.conversation.specs.declared.Verdict.{Verdict}
 use Rattle.conversation.specs.declared.batch.Batched.{Batched}
 use Rattle.conversation.specs.Step.{is_running, Told, refused, blamed, forwarded, told, stepping}
 use Rattle.conversation.specs.Due.{Awaited, of_side, awaited, first_length}
@@ -153,9 +153,9 @@ batching t s c l =
 
 -- ---- what the program answers, and what it leaves in the counts and the outputs
 
-unfoldable pub last_of : Last → Option Told
-last_of NoneDue = none
-last_of (Answer v) = some (told v)
+unfoldable pub last_of : Std.Option Verdict → Option Told
+last_of None = none
+last_of (Some v) = some (told v)
 
 abbrev pub lane_of : P.Lane → List ℕ → Lane
 lane_of l out = record { used = l.used; written = l.written; output = out }

@@ -1,16 +1,19 @@
 -- The counts of a conversation (document 02, request 4): the setting z, n for each choice and k for each branch. They are part of its state:
 -- question 9 asks about them, and forwarding raises them.
 -- Assumes nothing.
-use Rattle.std.specs.Prelude.{Bool, not, ◌&&◌, ◌||◌, cond, List, [], ◌∷◌, ℕ, ◌+◌, get_or, set, replicate, leb, ltb, eqb}
+use Rattle.std.specs.Prelude.{Bool, not, ◌&&◌, ◌||◌, cond, List, [], ◌∷◌, ℕ, ◌+◌, get_or, set, replicate, leb, ltb, eqb, None, Some}
+use Rattle.std.specs.Prelude as Std
 use Rattle.std.proofs.Math.Option.{Option, none, some}
 use Rattle.table.specs.Lists.{every, upto, sum_of, first_no}
+use Rattle.table.specs.Question.{number}
+use Rattle.table.specs.declared.refusal.Question.{Question}
 use Rattle.table.specs.Table.{is_choice, sort, of_choice}
 use Rattle.table.specs.View.{Words, states_of, branches_of, view, sound_of}
 use Rattle.table.specs.declared.Party.{Party}
 use Rattle.message.specs.Message.{read}
 use Rattle.message.specs.Judge.{selected}
 use Rattle.conversation.specs.declared.State.{State}
-use Rattle.conversation.specs.declared.Started.{Started}
+use Rattle.conversation.specs.declared.Started as P
 use Rattle.conversation.specs.Step.{fresh, Told, refused, blamed, forwarded, Outcome, refusing, stepping}
 use Rattle.conversation.specs.Due.{Seen, Awaited, awaited, due_at}
 use Rattle.conversation.specs.Due as Due
@@ -58,11 +61,25 @@ fresh_counts z = z ∷ replicate 160 0
 unfoldable pub start_questions : Words → ℕ → List (ℕ × Bool)
 start_questions t z = (9, sound_of t) ∷ (21, legal_setting z) ∷ []
 
+-- 0 or the number of the question that got a no, and what the conversation starts with
+pub record Started : Type 0 where
+  pub question : ℕ
+  pub state : State
+  pub counts : Counts
+
 -- 0 and a fresh state; or the question's number, and counts of 0, z among them, which 9 refuses ever after
 unfoldable pub starting : Words → ℕ → Started
 starting t z =
     let q = first_no (start_questions t z) in
     record { question = q; state = fresh; counts = cond (eqb q 0) (fresh_counts z) (fresh_counts 0) }
+
+-- what the program answers
+abbrev pub question_of : Std.Option Question → ℕ
+question_of None = 0
+question_of (Some q) = number q
+
+unfoldable pub started : P.Started → Started
+started r = record { question = question_of r.refused; state = r.state; counts = r.counts }
 
 -- ---- forwarding raises them
 

@@ -1,6 +1,6 @@
 -- The due message (document 01): the part of either side's waiting bytes that is handed back.
 -- Assumes nothing.
-use Rattle.std.specs.Prelude.{◌≡◌, true, ◌&&◌, cond, List, [], ◌++◌, ℕ, length, take, leb, eqb}
+use Rattle.std.specs.Prelude.{◌≡◌, true, ◌&&◌, cond, List, [], ◌++◌, ℕ, length, take, leb, eqb, Result, Ok, Err}
 use Rattle.std.proofs.Math.Option.{Option, none, some}
 use Rattle.table.specs.Table.{sort, speaker}
 use Rattle.table.specs.View.{Words, view}
@@ -8,11 +8,11 @@ use Rattle.message.specs.Message.{front, announced, legal_texts, well_formed}
 use Rattle.table.specs.declared.Party.{Party}
 use Rattle.table.specs.declared.Party.TheVariants.{Device, Host}
 use Rattle.conversation.specs.declared.State.{State}
-use Rattle.conversation.specs.declared.Turn.{Turn}
 use Rattle.conversation.specs.Step.{of_state, step_questions}
 use Rattle.table.specs.Lists.{first_no}
+use Rattle.table.specs.Question.{number}
+use Rattle.table.specs.declared.refusal.Question.{Question}
 use Rattle.std.specs.Borrow.{Bor}
-use Rattle.conversation.specs.declared.Turn.TheVariants as Turns
 
 -- what can be said of a slice: where it begins, which is a block of memory and an offset in it, and its bytes
 abbrev pub Seen : Type 0
@@ -39,10 +39,10 @@ unfoldable pub awaited : Words → State → Awaited
 awaited t s =
     cond (eqb (first_no (of_state t s)) 0) (sender_awaited (speaker (sort (view t) s.position))) (refused (first_no (of_state t s)))
 
--- the program's answer: the number of the question that got a no, or the side
-unfoldable pub turn_answer : Turn → Awaited
-turn_answer (Turns.Refused q) = refused q
-turn_answer (Turns.Of side) = of_side side
+-- the program's answer: the question that got a no, or the side
+unfoldable pub turn_answer : Result Party Question → Awaited
+turn_answer (Err q) = refused (number q)
+turn_answer (Ok side) = of_side side
 
 -- how long the first message is; 0 when 13 or 14 would refuse or it is not all there
 unfoldable pub first_length : List ℕ → ℕ

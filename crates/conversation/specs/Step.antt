@@ -3,6 +3,7 @@
 use Rattle.std.specs.Prelude.{◌≡◌, Bool, true, false, ◌||◌, cond, List, [], ◌∷◌, ◌++◌, ℕ, length, leb, eqb}
 use Rattle.std.proofs.Math.Option.{Option, none, some}
 use Rattle.table.specs.Lists.{first_no}
+use Rattle.table.specs.Question.{number}
 use Rattle.table.specs.Table.{Sort, is_choice, sort, speaker, is_party}
 use Rattle.table.specs.View.{Words, view, sound_at}
 use Rattle.message.specs.Message.{read, whole, legal_values, exact, legal_texts}
@@ -86,7 +87,7 @@ outside (OutOfRange f) = some f
 outside Early = none
 
 unfoldable pub told : Verdict → Told
-told (Refused q) = refused q
+told (Refused q) = refused (number q)
 told (Blamed side why) = blamed side (reason why) (outside why)
 told Forwarded = forwarded
 

@@ -1,17 +1,17 @@
 -- The warning of a branch that a side picks far too often or too seldom, and the estimate of its share (document 02, request 4).
 -- Assumes nothing.
-use Rattle.std.specs.Prelude.{◌≡◌, ◌↔◌, ◌⊎◌, Bool, true, false, ◌&&◌, cond, List, [], ◌∷◌, ℕ, zero, suc, ◌+◌, ◌-◌, ◌*◌, ◌/◌, ◌≤◌, ◌<◌, ltb, eqb}
+use Rattle.std.specs.Prelude.{◌≡◌, ◌↔◌, ◌⊎◌, Bool, true, false, ◌&&◌, cond, List, [], ◌∷◌, ℕ, zero, suc, ◌+◌, ◌-◌, ◌*◌, ◌/◌, ◌≤◌, ◌<◌, ltb, eqb, None, Some, Result, Ok, Err}
+use Rattle.std.specs.Prelude as Std
 use Rattle.std.proofs.Math.Option.{Option, none, some}
 use Rattle.table.specs.Lists.{first_no}
+use Rattle.table.specs.Question.{number}
+use Rattle.table.specs.declared.refusal.Question.{Question}
 use Rattle.table.specs.Table.{sends, receives, shares_sum, sort, speaker}
 use Rattle.table.specs.View.{Words, branches_of, owner_at, share_at, view, sound_at}
 use Rattle.table.specs.declared.Party.{Party}
 use Rattle.table.specs.declared.Party.TheVariants.{Device, Host}
 use Rattle.conversation.specs.declared.State.{State}
-use Rattle.conversation.specs.declared.warning.Estimate.{Estimate}
-use Rattle.conversation.specs.declared.warning.Estimate.TheVariants.{NoneYet, Thousandths}
-use Rattle.conversation.specs.declared.warning.Warning.{Warning}
-use Rattle.conversation.specs.declared.warning.Warning.TheVariants.{Refused, Tells}
+use Rattle.conversation.specs.declared.warning.Notice as P
 use Rattle.conversation.specs.Counts.{Counts, setting_of, n_at, k_at, counts_sound}
 
 -- ---- the rule
@@ -57,13 +57,13 @@ unfoldable pub warning : Words → State → Counts → ℕ → Notice
 warning t s c b = let q = first_no (warning_questions t s c b) in cond (eqb q 0) (notice t c b) (refused q)
 
 -- what the program answers
-unfoldable pub estimate_of : Estimate → Option ℕ
-estimate_of NoneYet = none
-estimate_of (Thousandths e) = some e
+unfoldable pub estimate_of : Std.Option ℕ → Option ℕ
+estimate_of None = none
+estimate_of (Some e) = some e
 
-unfoldable pub notice_of : Warning → Notice
-notice_of (Refused q) = refused q
-notice_of (Tells w side e) = tells w (some side) (estimate_of e)
+unfoldable pub notice_of : Result P.Notice Question → Notice
+notice_of (Err q) = refused (number q)
+notice_of (Ok r) = tells r.warns (some r.sender) (estimate_of r.estimate)
 
 -- ---- what is proved
 

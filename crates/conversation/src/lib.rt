@@ -2,12 +2,12 @@
 // claims over whole conversations: demand 2, early messages, batches and counts. No code: the crates `questions` and `monitor` have it.
 #![tactic(auto)]
 
-use table::Party;
+use table::{Party, Question};
 
 pub mod batch;
 pub mod warning;
 
-#[derive(Clone, Copy)]
+#[derive(Clone, Copy, Debug, PartialEq, Eq)]
 pub enum Standing {
     Running,
     DeviceBlamed,
@@ -15,14 +15,14 @@ pub enum Standing {
 }
 
 // A conversation's state. The gateway keeps one for each.
-#[derive(Clone, Copy)]
+#[derive(Clone, Copy, Debug, PartialEq, Eq)]
 pub struct State {
     pub position: u8,
     pub standing: Standing,
 }
 
 // Why a sender is blamed. Fields count from 0. A message is early that comes out of turn under edition 2.
-#[derive(Clone, Copy)]
+#[derive(Clone, Copy, Debug, PartialEq, Eq)]
 pub enum Reason {
     NoLabel,
     OtherKinds,
@@ -30,18 +30,19 @@ pub enum Reason {
     Early,
 }
 
-// A refusal holds its question's number.
-#[derive(Clone, Copy)]
+// A refusal says which question got a no.
+#[derive(Clone, Copy, Debug, PartialEq, Eq)]
 pub enum Verdict {
-    Refused(u8),
+    Refused(Question),
     Blamed(Party, Reason),
     Forwarded,
 }
 
-// What a conversation is started with: 0 and its state; or 9 or 21, and a state that every call refuses by 9.
+// What a conversation is started with: its state; or 9 or 21 refuses, and every call refuses the state by 9. No `Result`: `starting` gives a
+// state then, too.
 #[derive(Drop)]
 pub struct Started {
-    pub question: u8,
+    pub refused: Option<Question>,
     pub state: State,
     pub counts: Counts,
 }
@@ -50,13 +51,6 @@ pub struct Started {
 pub struct Stepped {
     pub state: State,
     pub verdict: Verdict,
-}
-
-// Whose turn it is. A refusal holds its question's number.
-#[derive(Clone, Copy)]
-pub enum Turn {
-    Refused(u8),
-    Of(Party),
 }
 
 // The counts of a conversation, which are part of its state and are lent: the setting z, n of each of 32 states, k of each of 128

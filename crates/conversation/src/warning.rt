@@ -1,15 +1,9 @@
 use table::Party;
 
-// In thousandths; none while nothing is counted.
-#[derive(Clone, Copy)]
-pub enum Estimate {
-    NoneYet,
-    Thousandths(u32),
-}
-
-// A refusal holds its question's number. Else: whether the branch warns, the sender of its choice, and the estimate.
-#[derive(Clone, Copy)]
-pub enum Warning {
-    Refused(u8),
-    Tells(bool, Party, Estimate),
+// Whether a branch warns, the sender of its choice, and the estimate in thousandths, if anything is counted.
+#[derive(Clone, Copy, Debug, PartialEq, Eq)]
+pub struct Notice {
+    pub warns: bool,
+    pub sender: Party,
+    pub estimate: Option<u32>,
 }

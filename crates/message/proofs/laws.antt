@@ -1,6 +1,7 @@
 -- Laws, each file named for the definition that it is about.
 pub mod BranchMessage
 pub mod Broken
+pub mod Fields
 pub mod HasLabel
 pub mod Judge
 pub mod Layout

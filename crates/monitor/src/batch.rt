@@ -1,24 +1,20 @@
 // A scan's worth of messages in one call: single steps on the due messages, in turn. Questions 9 and 10 are asked once: the table
 // does not change, and what a sound table's branch leads to is one of its states. Messages that are allowed go straight through;
 // the first that does not is taken by itself.
-ghost use Rattle.std.specs.Prelude.{◌≡◌, List, ℕ, ◌+◌, ◌≤◌};
-ghost use Rattle.table.specs.declared.Party.TheVariants.{Device, Host};
+ghost use Rattle.std.specs.Prelude.{◌≡◌, List, ℕ};
 ghost use Rattle.conversation.specs.Counts.{Counts};
-ghost use Rattle.conversation.specs.Batch.{lent, latest, took, one_turn, batching, last_of, batched};
+ghost use Rattle.conversation.specs.Batch.{lent, latest, one_turn, batching, last_of, lane_of, batched};
 ghost use Rattle.conversation.specs.inner.Keeping.{is_last_forwarded};
-ghost use Rattle.monitor.specs.inner.Lanes.{bytes_waiting, On, Led, none_passed, passed_at, taken_of, turned_told};
+ghost use Rattle.monitor.specs.inner.Lanes.{bytes_waiting, On, Led, none_passed, turned_told};
 ghost use Rattle.conversation.specs.declared.State.{State};
-ghost use Rattle.conversation.specs.declared.Verdict.TheVariants.{Forwarded};
-ghost use Rattle.conversation.specs.declared.batch.Last.TheVariants.{Answer};
 
-use super::lane::Taken;
-use super::{follow, lane};
-use conversation::batch::{Batched, Lane, Last, Passed};
+use super::lane::{self, Taken};
+use conversation::batch::{Batched, Lane, Passed};
 use conversation::{Counts, State, Verdict};
 use questions::ask;
 use table::{Party, Table};
 
-// Takes due messages in turn until none is due, a step refuses or a blame falls.
+// Takes due messages in turn until none is due, a step refuses or a blame falls. The slices stand apart, as the C interface lends them.
 pub fn batch(
     t: &Table,
     s: State,
@@ -32,20 +28,17 @@ pub fn batch(
         ≡ batching t.now s c.old
         (lent device.now host.now to_device.old to_host.old) }
 {
-    let q = ask::of_batch(t, s, c);
-    if q != 0 {
-        return begun(s, Last::Answer(Verdict::Refused(q)));
+    if let Err(question) = ask::of_batch(t, s, c) {
+        return begun(s, Some(Verdict::Refused(question)));
     }
-    let mut b = begun(s, Last::NoneDue);
+    let mut b = begun(s, None);
     loop {
         let far = straight_on(t, b, c, device, host, to_device, to_host);
-        let r = turn(t, far, c, device, host, to_device, to_host);
-        let next = r.batch;
-        let answer = r.answer;
-        if !is_forwarded(answer) {
-            return next;
+        let x = turn(t, far, c, device, host, to_device, to_host);
+        if !is_forwarded(x.answer) {
+            return x.batch;
         }
-        b = next;
+        b = x.batch;
     }
 }
 
@@ -68,25 +61,27 @@ pub fn advance(
     r.passed
 }
 
+const UNUSED: Lane = Lane {
+    used: 0,
+    written: 0,
+};
+
 // Nothing used, nothing written.
-fn begun(s: State, last: Last) -> Batched
+fn begun(s: State, last: Option<Verdict>) -> Batched
     ensures { result ≡ none_passed s last }
 {
-    let device = Lane {
-        used: 0,
-        written: 0,
-    };
-    let host = Lane {
-        used: 0,
-        written: 0,
-    };
     Batched {
         state: s,
-        passed: Passed { device, host, last },
+        passed: Passed {
+            device: UNUSED,
+            host: UNUSED,
+            last,
+        },
     }
 }
 
-// As far as messages of either side go straight.
+// As far as messages of either side go straight. Tried: too slow with `turn` in the same loop, since its answer comes by memory. Either
+// side has its arm: the outputs are lent apart, and a `&mut` that is chosen from two is no plainer.
 fn straight_on(
     t: &Table,
     from: Batched,
@@ -103,55 +98,29 @@ fn straight_on(
 {
     let mut b = from;
     loop {
-        let s = b.state;
         let p = b.passed;
-        let sort = t[table::SORT + s.position as usize];
+        let sort = t[table::SORT + b.state.position as usize];
         if sort == 0 {
             return b;
         }
         if sort == 1 {
-            let first = lane::pass(t, s.position, p.device, device, to_host);
-            if 128 <= first.branch {
+            let Some(x) = lane::pass(t, b.state, c, p.device, device, to_host) else {
                 return b;
-            }
-            let next = follow(t, first.branch, s, c);
-            b = forwarded(next, further(p.device, first.length), p.host);
+            };
+            b = after_turn(x, x.lane, p.host, p.last);
         } else {
-            let first = lane::pass(t, s.position, p.host, host, to_device);
-            if 128 <= first.branch {
+            let Some(x) = lane::pass(t, b.state, c, p.host, host, to_device) else {
                 return b;
-            }
-            let next = follow(t, first.branch, s, c);
-            b = forwarded(next, p.device, further(p.host, first.length));
+            };
+            b = after_turn(x, p.device, x.lane, p.last);
         }
-    }
-}
-
-// After a message that went straight.
-fn forwarded(state: State, device: Lane, host: Lane) -> Batched
-    ensures { result ≡ record { state = state; passed = record { device = device; host = host; last = Answer Forwarded } } }
-{
-    let last = Last::Answer(Verdict::Forwarded);
-    Batched {
-        state,
-        passed: Passed { device, host, last },
-    }
-}
-
-fn further(lane: Lane, n: usize) -> Lane
-    requires { (lane.used + n ≤ 18446744073709551615) × (lane.written + n ≤ 18446744073709551615) }
-    ensures { result ≡ record { used = lane.used + n; written = lane.written + n } }
-{
-    Lane {
-        used: lane.used + n,
-        written: lane.written + n,
     }
 }
 
 // What comes of one turn, whosesoever it is.
 #[derive(Clone, Copy)]
 struct Turned {
-    answer: Last,
+    answer: Option<Verdict>,
     batch: Batched,
 }
 
@@ -172,73 +141,49 @@ fn turn(
 {
     let s = b.state;
     let p = b.passed;
+    // Tried: too slow as a `match`.
     let sort = t[table::SORT + s.position as usize];
     if sort == 0 {
         return Turned {
-            answer: Last::NoneDue,
+            answer: None,
             batch: b,
         };
     }
     if sort == 1 {
         let x = lane::take(t, s, c, Party::Device, p.device, device, to_host);
-        return of_device(p, x);
+        return Turned {
+            answer: x.answer,
+            batch: after_turn(x, x.lane, p.host, p.last),
+        };
     }
     let x = lane::take(t, s, c, Party::Host, p.host, host, to_device);
-    of_host(p, x)
-}
-
-fn of_device(p: Passed, x: Taken) -> Turned
-    ensures { (s : State) (c d : Counts) (td th before : List ℕ)
-        → turned_told result d td th ≡ took Device (taken_of x d th) (batched (passed_at s p) c td before) }
-{
-    let answer = x.answer;
-    let before = p.last;
-    let last = latest(answer, before);
-    let state = x.state;
-    let device = x.lane;
-    let host = p.host;
-    let batch = Batched {
-        state,
-        passed: Passed { device, host, last },
-    };
-    Turned { answer, batch }
-}
-
-fn of_host(p: Passed, x: Taken) -> Turned
-    ensures { (s : State) (c d : Counts) (td th before : List ℕ)
-        → turned_told result d td th ≡ took Host (taken_of x d td) (batched (passed_at s p) c before th) }
-{
-    let answer = x.answer;
-    let before = p.last;
-    let last = latest(answer, before);
-    let state = x.state;
-    let device = p.device;
-    let host = x.lane;
-    let batch = Batched {
-        state,
-        passed: Passed { device, host, last },
-    };
-    Turned { answer, batch }
-}
-
-fn latest(answer: Last, before: Last) -> Last
-    ensures { last_of result ≡ latest (last_of answer) (last_of before) }
-{
-    match answer {
-        Last::NoneDue => before,
-        Last::Answer(v) => Last::Answer(v),
+    Turned {
+        answer: x.answer,
+        batch: after_turn(x, p.device, x.lane, p.last),
     }
 }
 
-fn is_forwarded(answer: Last) -> bool
+// After a side's turn: the lanes, and the later answer, if there is one.
+#[tactic(auto, unfolding(conversation::specs::Batch::latest, conversation::specs::Batch::last_of, conversation::specs::Batch::batched))]
+fn after_turn(x: Taken, device: Lane, host: Lane, before: Option<Verdict>) -> Batched
+    ensures { (c : Counts) (td th : List ℕ)
+        → batched result c td th ≡ record {
+          state = x.state;
+          counts = c;
+          lanes = record { device = lane_of device th; host = lane_of host td };
+          last = latest (last_of x.answer) (last_of before);
+        } }
+{
+    let last = x.answer.or(before);
+    Batched {
+        state: x.state,
+        passed: Passed { device, host, last },
+    }
+}
+
+#[tactic(auto, unfolding(conversation::specs::inner::Keeping::is_last_forwarded, conversation::specs::Conversation::is_forwarded, conversation::specs::Batch::last_of, conversation::specs::Step::told))]
+fn is_forwarded(answer: Option<Verdict>) -> bool
     ensures { result ≡ is_last_forwarded (last_of answer) }
 {
-    let Last::Answer(v) = answer else {
-        return false;
-    };
-    match v {
-        Verdict::Refused(_) => false,
-        Verdict::Blamed(_, _) => false,
-        Verdict::Forwarded => true,
-    }
+    matches!(answer, Some(Verdict::Forwarded))
 }

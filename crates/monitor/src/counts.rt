@@ -10,11 +10,9 @@ pub fn raise(c: &mut Counts, position: u8, branch: usize)
     requires { (position < 32) × (branch < 128) × (n_at c.old position < 10000 → k_at c.old branch ≤ 10000) }
     ensures { c.new ≡ raised c.old position branch }
 {
-    let i = position as usize;
-    let n = c[conversation::CHOSEN + i];
-    if n < conversation::MOST {
-        let k = c[conversation::TAKEN + branch];
-        c[conversation::CHOSEN + i] = n + 1;
-        c[conversation::TAKEN + branch] = k + 1;
+    let chosen = conversation::CHOSEN + usize::from(position);
+    if c[chosen] < conversation::MOST {
+        c[chosen] += 1;
+        c[conversation::TAKEN + branch] += 1;
     }
 }

@@ -1,6 +1,6 @@
 // The straight way of a message that is allowed: what a branch of a sound table holds is legal, so that of 13, 14, 15 and 22 only the
 // lengths and the texts' bytes are left to ask.
-ghost use Rattle.std.specs.Prelude.{◌≡◌, true, ◌≤◌, ◌<◌, length};
+ghost use Rattle.std.specs.Prelude.{◌≡◌, true, ◌≤◌, ◌<◌, length, IfSome};
 ghost use Rattle.table.specs.View.{branches_of, sound_of};
 ghost use Rattle.monitor.specs.inner.Leaves.{Facing, Carried, Held, GoesStraight, Leading};
 
@@ -8,33 +8,29 @@ use super::judge;
 use questions::ask;
 use table::{Party, Table};
 
-// The branch that a message takes which gets a yes to 12 to 16 and 22 and is allowed; 128 for any other.
-pub fn takes(t: &Table, position: u8, sort: u32, side: Party, message: &[u8], room: usize) -> usize
+// The branch that a message takes which gets a yes to 12 to 16 and 22 and is allowed; none for any other.
+pub fn takes(
+    t: &Table,
+    position: u8,
+    sort: u32,
+    side: Party,
+    message: &[u8],
+    room: usize,
+) -> Option<usize>
     requires { sound_of t.now ≡ true }
-    ensures { result < 128 → GoesStraight t.now position sort side message.now room result }
+    ensures { IfSome result (λ b. GoesStraight t.now position sort side message.now room b) }
 {
     if !ask::has_turn(side, sort) {
-        return 128;
+        return None;
     }
-    let size = message.len();
-    if room < size {
-        return 128;
+    let first = look_ahead(t, position, message, room)?;
+    if first.length != message.len() {
+        return None;
     }
-    if size < 9 {
-        return 128;
-    }
-    let n = t[table::BRANCHES] as usize;
-    let b = judge::find(t, n, position, message);
-    if n <= b {
-        return 128;
-    }
-    if held(t, b, message) != size {
-        return 128;
-    }
-    b
+    Some(first.branch)
 }
 
-// The branch that the first message of some bytes takes, and its length. Branch 128: it does not go straight.
+// The branch that the first message of some bytes takes, and its length.
 #[derive(Clone, Copy)]
 pub struct Ahead {
     pub branch: usize,
@@ -42,94 +38,70 @@ pub struct Ahead {
 }
 
 // The first message of bytes that may go on, where it is well formed, all there, allowed at the position, and the room holds it.
-pub fn look_ahead(t: &Table, position: u8, bytes: &[u8], room: usize) -> Ahead
+#[inline(always)]
+pub fn look_ahead(t: &Table, position: u8, bytes: &[u8], room: usize) -> Option<Ahead>
     requires { sound_of t.now ≡ true }
-    ensures { result.branch < 128 → Leading t.now position bytes.now room result.length result.branch }
+    ensures { IfSome result (λ a. Leading t.now position bytes.now room a.length a.branch) }
 {
     if bytes.len() < 9 {
-        return nowhere();
+        return None;
     }
-    let n = t[table::BRANCHES] as usize;
-    let b = judge::find(t, n, position, bytes);
-    if n <= b {
-        return nowhere();
-    }
-    let length = held(t, b, bytes);
-    if length == 0 {
-        return nowhere();
-    }
+    let branch = judge::find(t, position, bytes)?;
+    let length = held(t, branch, bytes)?;
     if room < length {
-        return nowhere();
+        return None;
     }
-    Ahead { branch: b, length }
+    Some(Ahead { branch, length })
 }
 
-fn nowhere() -> Ahead
-    ensures { result ≡ record { branch = 128; length = 0 } }
-{
-    Ahead {
-        branch: 128,
-        length: 0,
-    }
-}
-
-// How long the first message is, where branch b has its fields, it is all there and its texts are UTF-8; 0 where not. ASCII is UTF-8,
-// whatever fields it is of.
-fn held(t: &Table, b: usize, bytes: &[u8]) -> usize
+// How long the first message is, where branch b has its fields, it is all there and its texts are UTF-8. ASCII is UTF-8, whatever
+// fields it is of.
+fn held(t: &Table, b: usize, bytes: &[u8]) -> Option<usize>
     requires { (sound_of t.now ≡ true) × (b < branches_of t.now) × (9 ≤ length bytes.now) }
-    ensures { (result ≡ 0 → ⊥) → Held t.now bytes.now b result }
+    ensures { IfSome result (λ n. Held t.now bytes.now b n) }
 {
     let count = t[table::FIELDS + b] as u8;
     if bytes[8] != count {
-        return 0;
+        return None;
     }
-    let start = 9 + 5 * (count as usize);
+    let start = 9 + 5 * usize::from(count);
     if bytes.len() < start {
-        return 0;
+        return None;
     }
-    let texts = carry(t, 4 * b, count, bytes);
-    if 256 < texts {
-        return 0;
-    }
+    let texts = carry(t, 4 * b, count, bytes)?;
     let length = start + texts;
     if bytes.len() < length {
-        return 0;
+        return None;
     }
     if utf8::is_ascii(&bytes[start..length]) {
-        return length;
+        return Some(length);
     }
     if !message::legal_texts(&bytes[..length]) {
-        return 0;
+        return None;
     }
-    length
+    Some(length)
 }
 
-// How many bytes of text the message's fields announce, where those from place `at` on hold them; 512 where not.
-fn carry(t: &Table, at: usize, count: u8, message: &[u8]) -> usize
+// How many bytes of text the message's fields announce, where those from place `at` on hold them.
+fn carry(t: &Table, at: usize, count: u8, message: &[u8]) -> Option<usize>
     requires { Facing t.now message.now at count }
-    ensures { result ≤ 256 → Carried t.now message.now at count result }
+    ensures { IfSome result (λ texts. Carried t.now message.now at count texts) }
 {
-    let numbers = 9 + count as usize;
-    let mut texts: usize = 0;
-    let mut f: u8 = 0;
-    while f < count {
-        let i = f as usize;
-        let k = at + i;
-        let kind = message[9 + i];
-        if judge::wide(kind) != t[table::KIND + k] {
-            return 512;
+    let numbers = 9 + usize::from(count);
+    let mut texts = 0;
+    for f in 0..usize::from(count) {
+        let k = at + f;
+        let kind = message[9 + f];
+        if u32::from(kind) != t[table::KIND + k] {
+            return None;
         }
-        let number = message::number(message, numbers + 4 * i);
-        if number < t[table::LOW + k] {
-            return 512;
+        let number = message::number(message, numbers + 4 * f);
+        if !judge::within(t, k, number) {
+            return None;
         }
-        if t[table::HIGH + k] < number {
-            return 512;
-        }
-        f += 1;
         if kind == 1 {
             texts += (number - 0x8000_0000) as usize;
         }
     }
-    texts
+    Some(texts)
 }

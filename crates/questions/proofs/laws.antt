@@ -1,3 +1,4 @@
--- Laws, each file named for the definition that it is about.
+-- Laws, each file named for what it is about.
 pub mod CountedTurn
+pub mod Sender
 pub mod SumsTo

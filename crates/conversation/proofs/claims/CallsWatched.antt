@@ -5,10 +5,9 @@ use mathlib.Core.List.{[]}
 use Rattle.table.specs.View.{view}
 use Rattle.message.specs.Rules.{table_rules}
 use Rattle.message.proofs.laws.Judge.{some_eq}
-use Rattle.conversation.specs.declared.Started.{Started}
 use Rattle.conversation.specs.Step.{fresh}
 use Rattle.conversation.specs.Conversation.{conversation, blamed_first}
-use Rattle.conversation.specs.Counts.{starting}
+use Rattle.conversation.specs.Counts.{Started, starting}
 use Rattle.conversation.specs.Counting.{Tallied}
 use Rattle.conversation.specs.Programs.{run_from, messages_of, awaited_by, CallsWatched}
 use Rattle.conversation.proofs.laws.Conversation.{stands_fresh}

@@ -1,13 +1,13 @@
 -- A verdict is known by document 01's numbers: the promises, which speak of these, leave no other.
 -- Assumes nothing.
-use mathlib.Core.Path.{◌≡◌, refl, sym, ap, ◌∙◌}
+use mathlib.Core.Path.{◌≡◌, refl, ap}
 use mathlib.Core.Option.{Option, none, some}
 use Prim.Native.Nat.{ℕ, zero, suc}
 use Rattle.conversation.specs.declared.Reason.{Reason}
 use Rattle.conversation.specs.declared.Reason.TheVariants.{NoLabel, OtherKinds, OutOfRange, Early}
-use Rattle.conversation.specs.declared.Verdict.{Verdict}
 use Rattle.conversation.specs.declared.Verdict.TheVariants.{Refused, Blamed, Forwarded}
-use Rattle.conversation.specs.Step.{Told, refused, blamed, forwarded, told, reason, outside, VerdictOnce}
+use Rattle.table.proofs.laws.Question.{number_once}
+use Rattle.conversation.specs.Step.{told, reason, outside, VerdictOnce}
 
 unfoldable reason_by : ℕ → Option ℕ → Reason
 reason_by zero f = NoLabel
@@ -16,19 +16,21 @@ reason_by (suc (suc n)) (some f) = OutOfRange f
 reason_by (suc (suc zero)) none = OtherKinds
 reason_by (suc (suc (suc n))) none = Early
 
-unfoldable verdict_by : Told → Verdict
-verdict_by (refused q) = Refused q
-verdict_by (blamed side r f) = Blamed side (reason_by r f)
-verdict_by forwarded = Forwarded
-
-verdict_told : (v : Verdict) → verdict_by (told v) ≡ v
-unfolding told verdict_by reason_by reason outside
-verdict_told (Refused q) = refl
-verdict_told (Blamed side NoLabel) = refl
-verdict_told (Blamed side OtherKinds) = refl
-verdict_told (Blamed side (OutOfRange f)) = refl
-verdict_told (Blamed side Early) = refl
-verdict_told Forwarded = refl
+reason_known : (r : Reason) → reason_by (reason r) (outside r) ≡ r
+unfolding reason_by reason outside
+reason_known NoLabel = refl
+reason_known OtherKinds = refl
+reason_known (OutOfRange f) = refl
+reason_known Early = refl
 
 pub verdict_once : VerdictOnce
-verdict_once v w e = sym (verdict_told v) ∙ ap verdict_by e ∙ verdict_told w
+unfolding told
+verdict_once (Refused p) (Refused q) e = ap Refused (number_once p q cc)
+verdict_once (Refused p) (Blamed side why) e = cc
+verdict_once (Refused p) Forwarded e = cc
+verdict_once (Blamed side why) (Refused q) e = cc
+verdict_once (Blamed side why) (Blamed other because) e = cc (reason_known why, reason_known because)
+verdict_once (Blamed side why) Forwarded e = cc
+verdict_once Forwarded (Refused q) e = cc
+verdict_once Forwarded (Blamed side why) e = cc
+verdict_once Forwarded Forwarded e = refl

@@ -44,6 +44,9 @@ module _ (t : Words) (i : ℕ) where
   unfolding sound_at
   sound_parts e = let b = both (sound_of t) (ltb i (states_of t)) e in (b.0, ltb-true i (states_of t) b.1)
 
+  pub table_sound : sound_at t i ≡ true → sound_of t ≡ true
+  table_sound e = (sound_parts e).0
+
   pub parts_sound : sound_of t ≡ true → i < states_of t → sound_at t i ≡ true
   unfolding sound_at
   parts_sound e l = join e (lt-ltb i (states_of t) l)

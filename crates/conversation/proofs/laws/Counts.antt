@@ -180,6 +180,10 @@ module _ (t : Words) (z : ℕ) where
   unfolding starting
   refused_start n = rw (ne_eqb (first_no (start_questions t z)) 0 n)
 
+pub setting_most : (z : ℕ) → legal_setting z ≡ true → z ≤ 1000
+unfolding legal_setting
+setting_most z e = leb-true z 1000 (both (leb 1 z) (leb z 1000) e).1
+
 -- with a setting of 0, as a refused start has it
 pub unstarted : (t : Words) → counts_sound t (fresh_counts 0) ≡ false
 unfolding counts_sound fresh_counts legal_setting

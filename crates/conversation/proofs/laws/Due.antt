@@ -10,19 +10,22 @@ use lib.ListN.{length, take, length-append, get_or-append}
 use lib.Seq.{length-take-le, take-append-le, take-append_seam}
 use lib.Dec.{leb, eqb}
 use borrow.Author.Tests.{eq-eqb, ne_eqb, eqb-true, le-leb, lt-leb, leb-true}
+use Rattle.std.specs.Prelude.{Result, Ok, Err}
+use Rattle.table.specs.Question.{number}
 use Rattle.table.specs.Table.{legal_label, sort, speaker, is_party}
 use Rattle.table.specs.View.{view, sort_of, Words, sort_at}
 use Rattle.table.proofs.laws.Lists.{both, join, left_fails, right_fails, or_left}
 use Rattle.table.proofs.laws.View.{sort_of_is}
-use Rattle.message.specs.Message.{count_of, announced, whole, legal_values, exact, legal_texts, front, front_of}
+use Rattle.message.specs.Message.{count_of, announced, whole, legal_values, exact, legal_texts, front, Head, front_of, head_of}
 use Rattle.message.specs.inner.Layout.{Framed}
-use Rattle.message.specs.declared.Head.{Head}
 use Rattle.message.proofs.laws.Message.{Whole, whole_parts, parts_whole, cut_values, cut_announced, framed_parts, message_framed}
 use Rattle.table.specs.declared.Party.{Party}
 use Rattle.table.specs.declared.Party.TheVariants.{Device, Host}
 use Rattle.conversation.specs.declared.State.{State}
 use Rattle.conversation.specs.Step.{of_state, step_questions}
 use Rattle.table.specs.Lists.{first_no}
+use Rattle.table.specs.declared.refusal.Question.{Question}
+use Rattle.table.proofs.laws.Question.{number_no_zero}
 use Rattle.conversation.specs.Due.{Awaited, refused, of_side, sender_awaited, awaited, first_length}
 use Rattle.conversation.proofs.laws.Step.{turn_its, host_speaks, opened, formed_then, asked_then}
 
@@ -34,7 +37,7 @@ module _ (t : Words) (s : State) where
   refused_turn q e n = rw (sym e, ne_eqb q 0 n)
 
   module _ (e : first_no (of_state t s) ≡ 0) where
-    awaited_by : awaited t s ≡ sender_awaited (speaker (sort_of (sort_at t s.position)))
+    pub awaited_by : awaited t s ≡ sender_awaited (speaker (sort_of (sort_at t s.position)))
     unfolding awaited
     awaited_by = rw (e, sort_of_is t s.position (opened t s e).below)
 
@@ -62,12 +65,27 @@ module _ (bytes : List ℕ) where
     unfolding first_length
     all_there h = rw (join (eq-eqb (front bytes) 0 e) (le-leb (announced bytes) (length bytes) h))
 
-  -- as `message::front` says it
-  pub head_parts : (h : Head) → h ≡ front_of bytes → h.question ≡ 0 → (front bytes ≡ 0) × (h.length ≡ announced bytes)
-  unfolding front_of
-  head_parts h e z =
-      let f : front bytes ≡ 0 = sym (ap (λ (h : Head). h.question) e) ∙ z in
-      (f, ap (λ (h : Head). h.length) e ∙ rw f)
+  -- by what `message::front` answers
+  module _ (r : Result ℕ Question) (told : head_of r ≡ front_of bytes) where
+    pub first_none : (q : Question) → r ≡ Err q → 0 ≡ first_length bytes
+    unfolding front_of
+    first_none q e =
+        let f : number q ≡ front bytes = ap (λ (h : Head). h.question) (sym (ap head_of e) ∙ told) in
+        sym (bad_front (λ z. number_no_zero q (f ∙ z)))
+
+    module _ (n : ℕ) (e : r ≡ Ok n) where
+      front_yes : (front bytes ≡ 0) × (n ≡ announced bytes)
+      unfolding front_of
+      front_yes =
+          let h = sym (ap head_of e) ∙ told in
+          let f : front bytes ≡ 0 = sym (ap (λ (h : Head). h.question) h) in
+          (f, ap (λ (h : Head). h.length) h ∙ rw f)
+
+      pub first_all : n ≤ length bytes → n ≡ first_length bytes
+      first_all l = front_yes.1 ∙ sym (all_there front_yes.0 (omega (arith, front_yes.1)))
+
+      pub first_part : length bytes < n → 0 ≡ first_length bytes
+      first_part l = sym (not_all_there front_yes.0 (omega (arith, front_yes.1)))
 
   pub first_within : first_length bytes ≤ length bytes
   unfolding first_length
@@ -79,6 +97,9 @@ module _ (bytes : List ℕ) where
 
   pub first_cut : length (take (first_length bytes) bytes) ≡ first_length bytes
   first_cut = length-take-le (first_length bytes) bytes first_within
+
+  pub first_taken : (n : ℕ) → n ≡ first_length bytes → n ≡ length (take n bytes)
+  first_taken n e = rw e (sym first_cut)
 
   -- it is as long as it says
   pub first_framed : (first_length bytes ≡ 0 → ⊥) → Framed (take (first_length bytes) bytes)

@@ -9,10 +9,10 @@ use Prim.Native.Nat.{ℕ, zero, suc, ◌≤◌, ◌<◌}
 use native.Mathlib.Omega.{arith}
 use lib.ListN.{length}
 use lib.Dec.{leb, ltb, eqb}
-use borrow.Author.Tests.{ne_eqb, lt-ltb, le-ltb, ltb-true, le-leb, lt-leb, leb-true}
+use borrow.Author.Tests.{ne_eqb, lt-ltb, ltb-true, le-leb, lt-leb, leb-true}
 use Rattle.table.specs.Table.{Sort, is_choice, sort, speaker, is_party}
 use Rattle.table.specs.View.{view, sort_of, sound_of, sound_at, Words, states_of, sort_at, edition_of}
-use Rattle.table.proofs.laws.Lists.{both, join, right_fails, decided}
+use Rattle.table.proofs.laws.Lists.{both, join, decided}
 use Rattle.table.proofs.laws.View.{choice_code, code_choice, Facts, sort_of_is, sound_facts}
 use Rattle.message.specs.Message.{read, whole, legal_values, exact, legal_texts, refusal}
 use Rattle.message.proofs.laws.Message.{framed_parts, formed_framed}
@@ -59,18 +59,6 @@ module _ (t : Words) (s : State) (sound : sound_of t ≡ true) (l : s.position <
   here = join sound (lt-ltb s.position (states_of t) l)
 
 module _ (t : Words) (s : State) (c : Counts) where
-  pub unsound : sound_of t ≡ false → first_no (batch_questions t s c) ≡ 9
-  unfolding first_no batch_questions sound_at
-  unsound h = rw h
-
-  pub no_state : states_of t ≤ s.position → first_no (batch_questions t s c) ≡ 9
-  unfolding first_no batch_questions sound_at
-  no_state h = rw (right_fails (sound_of t) (le-ltb s.position (states_of t) h))
-
-  pub bad_counts : counts_sound t c ≡ false → first_no (batch_questions t s c) ≡ 9
-  unfolding first_no batch_questions
-  bad_counts h = rw (right_fails (sound_at t s.position) h)
-
   module _ (sound : sound_of t ≡ true) (l : s.position < states_of t) (counts : counts_sound t c ≡ true) where
     pub not_running : is_running s.standing ≡ false → first_no (batch_questions t s c) ≡ 10
     unfolding first_no batch_questions sound_at

@@ -17,10 +17,9 @@ use Rattle.table.proofs.laws.Lists.{decided}
 use Rattle.table.proofs.laws.View.{Facts, sound_facts}
 use Rattle.message.specs.Message.{read}
 use Rattle.message.specs.Judge.{selected}
-use Rattle.conversation.specs.declared.Started.{Started}
 use Rattle.conversation.specs.Step.{Told, refused, blamed, forwarded}
 use Rattle.conversation.specs.Conversation.{Event, is_forwarded}
-use Rattle.conversation.specs.Counts.{Counts, setting_of, n_at, k_at, counted_most, legal_setting, counts_sound, fresh_counts, starting, raised, raised_by, raised_at, counted}
+use Rattle.conversation.specs.Counts.{Counts, Started, setting_of, n_at, k_at, counted_most, legal_setting, counts_sound, fresh_counts, starting, raised, raised_by, raised_at, counted}
 use Rattle.conversation.specs.Batches.{counts_after}
 use Rattle.conversation.specs.Counting.{picked, picks, times, Tallied}
 use Rattle.conversation.proofs.laws.Counts.{fresh_n, fresh_k, fresh_length, fresh_sound, raised_full, raised_length, raised_setting, raised_n_other, raised_k_other, raised_n, raised_k, raised_sound, starts, chosen_branch, counted_sound}

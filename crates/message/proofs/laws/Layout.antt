@@ -1,8 +1,11 @@
 -- Pieces written into a buffer one after the other are one piece.
 -- Assumes nothing.
-use Rattle.std.proofs.Common.{◌≡◌, ℕ, zero, suc, ◌+◌, ◌*◌, ◌<◌, ◌≤◌, List, [], ◌∷◌, ◌++◌, length, take, drop, set, replicate, sym, refl, ap, ◌∙◌, ap₂, append_assoc, add-zero, add_assoc, mul-zero, mul-suc, add-one, arith, length-append, length-drop, take-append-drop, length-take-le, drop-drop, take_at, drop_at}
-use lib.ListN.{replicate-append-replicate}
-use lib.Seq.{set_split, sets-eq}
+use Rattle.std.proofs.Common.{◌≡◌, ℕ, zero, suc, ◌+◌, ◌*◌, ◌/◌, ◌%◌, ◌<◌, ◌≤◌, List, [], ◌∷◌, ◌++◌, length, take, drop, set, sym, refl, ap, ◌∙◌, ap₂, append_assoc, add-zero, add_assoc, mul-zero, mul-suc, add-one, arith, length-append, length-drop, take-append-drop, length-take-le, drop-drop, take_at, drop_at}
+use lib.Seq.{set_split}
+use Rattle.std.specs.Int.{to_be_bytes, w32, w64}
+use borrow.Rule.Slice.PartMut.{put_mid}
+use Rattle.table.specs.View.{label_of}
+use Rattle.message.specs.Make.{four_bytes}
 use Rattle.message.specs.inner.Layout.{put_at, in_a_row, total}
 
 -- ---- a piece
@@ -52,15 +55,31 @@ pub put_one : (b : List ℕ) (i a : ℕ) → i < length b → set b i a ≡ put_
 unfolding put_at
 put_one b i a l = set_split b i a l ∙ ap (λ n. take i b ++ (a ∷ drop n b)) (sym (add-one i))
 
-pub put_four : (b : List ℕ) (i a c d e : ℕ) → i + 4 ≤ length b
-    → set (set (set (set b i a) (i + 1) c) (i + 2) d) (i + 3) e ≡ put_at i (a ∷ c ∷ d ∷ e ∷ []) b
+-- ---- as the code writes them
+
+-- a part of the buffer that is written as a whole
+pub put_part : (at k : ℕ) (b p : List ℕ) → length p ≡ k → put_mid at k b p ≡ put_at at p b
 unfolding put_at
-put_four b i a c d e l =
-    let one : i + 1 ≡ suc i = omega arith in
-    let two : i + 2 ≡ suc (suc i) = omega arith in
-    let three : i + 3 ≡ suc (suc (suc i)) = omega arith in
-    rw (one, two, three)
-    (sets-eq (a ∷ c ∷ d ∷ e ∷ []) b i l ∙ append_assoc (take i b) (a ∷ c ∷ d ∷ e ∷ []) (drop (i + 4) b))
+put_part at k b p e = ap (λ r. take at b ++ (p ++ r)) (drop-drop k at b ∙ ap (λ n. drop (at + n) b) (sym e))
+
+-- the buffer's first bytes, and one more
+pub put_head : (b p : List ℕ) (n a : ℕ) → length p ≡ n → n < length b → set (p ++ drop n b) n a ≡ put_at 0 (p ++ (a ∷ [])) b
+unfolding put_at
+put_head b p n a e l =
+    let q : n ≡ 0 + length p = omega arith in
+    ap (λ m. set (p ++ drop m b) n a) q ∙ put_one (put_at 0 p b) n a (omega (arith, put_length 0 p b (omega arith)))
+    ∙ ap (λ m. put_at m (a ∷ []) (put_at 0 p b)) q ∙ put_put 0 p b (omega arith) (a ∷ [])
+
+pub label_bytes_high_first : (w : ℕ) → to_be_bytes w64 w ≡ label_of w
+unfolding label_of
+label_bytes_high_first w = refl
+
+pub number_bytes_high_first : (n : ℕ) → to_be_bytes w32 ((n + 2147483648) % 4294967296) ≡ four_bytes n
+unfolding four_bytes
+number_bytes_high_first n = ap (λ b. b ∷ w / 65536 % 256 ∷ w / 256 % 256 ∷ w % 256 ∷ []) (omega arith)
+  where
+    w : ℕ
+    w = (n + 2147483648) % 4294967296
 
 -- ---- pieces in a row
 
@@ -84,11 +103,6 @@ module _ (p : ℕ → List ℕ) where
         → set b n a ≡ put_at at (in_a_row (i + 1) p) b₀
     set_more b n a l m q e =
         put_one b n a (omega (arith, ap length e, put_length at (in_a_row i p) b₀ fits)) ∙ ap (λ x. put_at n x b) (sym q) ∙ put_more b n l e
-
-pub run_fill : (a n : ℕ) → in_a_row n (λ f. a ∷ []) ≡ replicate n a
-unfolding in_a_row
-run_fill a zero = refl
-run_fill a (suc n) = ap (λ l. l ++ (a ∷ [])) (run_fill a n) ∙ replicate-append-replicate n 1 a ∙ ap (λ n. replicate n a) (add-one n)
 
 pub sum_more : (f : ℕ → ℕ) (i : ℕ) → total (i + 1) f ≡ total i f + f i
 unfolding total

@@ -1,20 +1,21 @@
 -- The texts behind the arrays, one by one: what a text leaves decides the rest. Those of a well-formed message are encodings.
 -- Assumes nothing.
-use Rattle.std.proofs.Common.{◌≡◌, ℕ, zero, suc, ◌+◌, ◌-◌, ◌*◌, ◌<◌, ◌≤◌, Bool, true, ◌&&◌, ◌⊎◌, List, [], ◌∷◌, ◌++◌, map, length, get_or, take, drop, sym, refl, ap, ◌∙◌, ap₂, ⊎_elim, le_of_suc-le-suc, not-suc-le-zero, arith, length-drop, take-append-drop, drop_of_length-le, length-take-le, take_all, drop-cons, get_or-take, drop-drop, take-add, drop_at}
+use Rattle.std.proofs.Common.{◌≡◌, ℕ, zero, suc, ◌+◌, ◌-◌, ◌*◌, ◌<◌, ◌≤◌, Bool, true, ◌&&◌, List, [], ◌∷◌, ◌++◌, map, length, get_or, take, drop, sym, refl, ap, ◌∙◌, ap₂, ⊎_elim, le_of_suc-le-suc, not-suc-le-zero, arith, length-drop, take-append-drop, drop_of_length-le, length-take-le, take_all, drop-cons, get_or-take, take-add, drop_at, min, leb, leb-true, leb-false, false}
 use mathlib.Core.List.{flatten}
 use Rattle.table.specs.Lists.{every}
-use Rattle.table.proofs.laws.Lists.{both, join}
+use Rattle.table.proofs.laws.Lists.{both, join, decided}
 use Rattle.utf8.specs.Utf8.{is_utf8}
 use Rattle.utf8.specs.inner.Characters.{is_ascii}
 use Rattle.utf8.proofs.laws.Characters.{ascii_utf8, ascii_take, ascii_drop}
-use Rattle.message.specs.Message.{Value, count_of, values_of, text_length, text_bytes, cut_up, texts_of, legal_texts}
+use Rattle.message.specs.Message.{Value, count_of, values_of, text_length, text_bytes, cut_up, texts_of, legal_texts, number_at}
+use Rattle.message.specs.inner.Layout.{text_at}
 use Rattle.message.proofs.laws.Message.{value_at, values_length, value_by_place}
 
--- from field f on, whose text begins at a place
-abbrev pub left_legal : List ℕ → ℕ → ℕ → Bool
-left_legal bytes f at = every is_utf8 (cut_up (drop f (values_of bytes)) (drop at bytes))
+-- from field f on, of which the bytes of text are left
+abbrev pub left_legal : List ℕ → ℕ → List ℕ → Bool
+left_legal bytes f rest = every is_utf8 (cut_up (drop f (values_of bytes)) rest)
 
-pub texts_begin : (bytes : List ℕ) → legal_texts bytes ≡ left_legal bytes 0 (9 + 5 * count_of bytes)
+pub texts_begin : (bytes : List ℕ) → legal_texts bytes ≡ left_legal bytes 0 (drop (9 + 5 * count_of bytes) bytes)
 unfolding legal_texts texts_of
 texts_begin bytes = refl
 
@@ -49,46 +50,40 @@ pub no_texts : (bytes : List ℕ) → length bytes ≤ 9 + 5 * count_of bytes �
 unfolding is_ascii
 no_texts bytes l = all_ascii bytes (ap is_ascii (drop_of_length-le bytes l))
 
--- a text of n bytes from `at` on stops at `end`: behind them or, where there are fewer, behind all
-abbrev pub StopsAt : List ℕ → ℕ → ℕ → ℕ → Type 0
-StopsAt bytes at n end = (end ≡ at + n) ⊎ ((end ≡ length bytes) × (length bytes ≤ at + n))
-
-module _ (bytes : List ℕ) (at n end : ℕ) (cut : StopsAt bytes at n end) where
-  text_there : take n (drop at bytes) ≡ take (end - at) (drop at bytes)
-  text_there =
-      ⊎_elim (λ (e : end ≡ at + n). let q : n ≡ end - at = omega arith in ap (λ k. take k (drop at bytes)) q)
-      (λ (e : (end ≡ length bytes) × (length bytes ≤ at + n)).
-      take_all n (drop at bytes) (omega (arith, length-drop at bytes))
-      ∙ sym (take_all (end - at) (drop at bytes) (omega (arith, length-drop at bytes))))
-      cut
-
-  rest_there : drop n (drop at bytes) ≡ drop end bytes
-  rest_there =
-      drop-drop n at bytes
-      ∙ ⊎_elim (λ (e : end ≡ at + n). ap (λ k. drop k bytes) (sym e))
-      (λ (e : (end ≡ length bytes) × (length bytes ≤ at + n)).
-      drop_of_length-le bytes e.1 ∙ sym (drop_of_length-le bytes {i = end} (omega arith)))
-      cut
-
-module _ (bytes : List ℕ) (arrays : 9 + 5 * count_of bytes ≤ length bytes) where
-  -- one text more
-  pub texts_next : (f at end : ℕ) → f < count_of bytes
-      → StopsAt bytes at (text_length (value_at bytes f)) end
-      → left_legal bytes f at ≡ (is_utf8 (take (end - at) (drop at bytes)) && left_legal bytes (f + 1) end)
+module _ (bytes : List ℕ) (arrays : 9 + 5 * count_of bytes ≤ length bytes) (f : ℕ) (rest : List ℕ) where
+  -- one text more, which stops where no byte is left
+  pub texts_next : f < count_of bytes → (n : ℕ) → n ≡ min (text_length (value_at bytes f)) (length rest)
+      → left_legal bytes f rest ≡ (is_utf8 (take n rest) && left_legal bytes (f + 1) (drop n rest))
   unfolding cut_up every
-  texts_next f at end l cut =
+  texts_next l n e =
       let v = value_at bytes f in
-      let n = text_length v in
       let s : suc f ≡ f + 1 = omega arith in
-      ap (λ vs. every is_utf8 (cut_up vs (drop at bytes)))
+      ap (λ vs. every is_utf8 (cut_up vs rest))
       (drop-cons (values_of bytes) f v (omega (arith, values_length bytes arrays))
       ∙ ap₂ (λ w k. w ∷ drop k (values_of bytes)) (value_by_place bytes arrays f v l) s)
-      ∙ ap₂ (λ x y. is_utf8 x && every is_utf8 (cut_up (drop (f + 1) (values_of bytes)) y)) (text_there bytes at n end cut) (rest_there bytes at n end cut)
+      ∙ ap₂ (λ x y. is_utf8 x && every is_utf8 (cut_up (drop (f + 1) (values_of bytes)) y)) (stop (text_length v) e).0 (stop (text_length v) e).1
+    where
+      stop : (m : ℕ) → n ≡ min m (length rest) → (take m rest ≡ take n rest) × (drop m rest ≡ drop n rest)
+      stop m q =
+          ⊎_elim (λ (t : leb m (length rest) ≡ true). let z : m ≡ n = omega (arith, leb-true m (length rest) t) in (ap (λ k. take k rest) z, ap (λ k. drop k rest) z))
+          (λ (t : leb m (length rest) ≡ false).
+          let z = leb-false m (length rest) t in
+          (take_all m rest (omega arith) ∙ sym (take_all n rest (omega arith)), drop_of_length-le rest {i = m} (omega arith) ∙ sym (drop_of_length-le rest {i = n} (omega arith))))
+          (decided (leb m (length rest)))
 
-  pub texts_end : (f at : ℕ) → count_of bytes ≤ f → left_legal bytes f at ≡ true
+  pub texts_end : count_of bytes ≤ f → left_legal bytes f rest ≡ true
   unfolding cut_up every
-  texts_end f at l =
-      ap (λ vs. every is_utf8 (cut_up vs (drop at bytes))) (drop_of_length-le (values_of bytes) {i = f} (omega (arith, values_length bytes arrays)))
+  texts_end l = ap (λ vs. every is_utf8 (cut_up vs rest)) (drop_of_length-le (values_of bytes) {i = f} (omega (arith, values_length bytes arrays)))
+
+-- as the loop asks: a text of m bytes from its kind and number, of which n are there
+pub texts_step : (bytes : List ℕ) (count f : ℕ) (rest text behind : List ℕ) (m n : ℕ) → (count ≡ count_of bytes) × (9 + 5 * count ≤ length bytes) → f < count
+    → m ≡ text_at (get_or bytes (9 + f) 0) (number_at bytes (9 + count + 4 * f)) → n ≡ min m (length rest) → text ≡ take n rest → behind ≡ drop n rest
+    → legal_texts bytes ≡ left_legal bytes f rest → legal_texts bytes ≡ (is_utf8 text && left_legal bytes (f + 1) behind)
+unfolding text_at
+texts_step bytes count f rest text behind m n q l a b e g h =
+    let z : m ≡ text_length (value_at bytes f) = a ∙ ap (λ k. text_at (get_or bytes (9 + f) 0) (number_at bytes (9 + k + 4 * f))) q.0 in
+    h ∙ texts_next bytes (omega arith) f rest (omega arith) n (b ∙ ap (λ k. min k (length rest)) z)
+    ∙ ap₂ (λ x y. is_utf8 x && left_legal bytes (f + 1) y) (sym e) (sym g)
 
 -- ---- the texts of a well-formed message
 

@@ -9,7 +9,7 @@ use borrow.Author.Tests.{lt-leb}
 use Rattle.table.specs.Lists.{upto, first_no}
 use Rattle.table.specs.View.{branches_of, count_at, word_at, kind_at, label_of, field_at, branch_at, view, sound_of}
 use Rattle.table.proofs.laws.Lists.{both, left_fails, upto_length}
-use Rattle.table.proofs.laws.View.{Facts, upto_at, branches_of_is}
+use Rattle.table.proofs.laws.View.{Facts, sound_facts, upto_at, branches_of_is}
 use Rattle.message.specs.Message.{Value, text_bytes}
 use Rattle.message.specs.Make.{four_bytes, numbers_of, write, chosen, branch_message, made, branch, names_field, exists, make_questions, Making, opening, making}
 use Rattle.message.specs.inner.Layout.{put_at, in_a_row, laid, total, is_named, has, number_chosen, text_at}
@@ -86,7 +86,7 @@ laid_length label n kind number text =
 
 -- ---- a text is short
 
-text_small : (kind n : ℕ) → T.within_kind kind n ≡ true → text_at kind n ≤ 64
+pub text_small : (kind n : ℕ) → T.within_kind kind n ≡ true → text_at kind n ≤ 64
 unfolding T.within_kind text_at
 text_small zero n e = zero-le
 text_small (suc zero) n e = let h = leb-true n 2147483712 (both (leb 2147483648 n) (leb n 2147483712) e).1 in omega arith
@@ -193,6 +193,38 @@ module _ (t : List ℕ) (k : ℕ) (h : Option ℕ) (b : List ℕ) where
       unfolding making make_questions first_no
       says_length l = simp (s, e, le-leb _ _ l)
 
+-- what `make` refuses before it measures
+pub ruleset refusals = (says_9, says_18, none_there, there)
+
 pub put_opening : (p b : List ℕ) → put_at 0 p b ≡ opening p b
 unfolding put_at opening
 put_opening p b = ap (λ n. p ++ drop n b) (zero-add (length p))
+
+-- ---- as the call asks, of a table that is sound and a branch of it
+
+module _ (t : List ℕ) (k : ℕ) (sound : sound_of t ≡ true) (l : k < branches_of t) where
+  pub columns : (count t k ≤ 4) × (k < 128) × ((f : ℕ) → f < count t k → kind_at t (4 * k + f) ≤ 2)
+  columns =
+      let f = sound_facts t sound in
+      (f.counts k l, omega (arith, f.room), λ i m. kind_known (field_at t (4 * k + i)) (f.ranges k l i m))
+
+  module _ (h : Option ℕ) (b : List ℕ) (named : has h (count t k) ≡ true) (text : ℕ) (e : text ≡ texts t k h) where
+    pub text_few : text ≤ 256
+    text_few = omega (arith, e, texts_few t k h l (sound_facts t sound))
+
+    size : length (made (branch (view t) k) h) ≡ 9 + 5 * count t k + text
+    size = made_size t k h l ∙ ap (λ n. 9 + 5 * count t k + n) (sym e)
+
+    pub no_room : length b < 9 + 5 * count t k + text → making t k h b ≡ refused b 16
+    no_room r = says_16 t k h b sound (there t k h l ∙ named) (omega (arith, size))
+
+    pub room : 9 + 5 * count t k + text ≤ length b
+        → making t k h b ≡ record {
+          numbers = (0, 9 + 5 * count t k + text);
+          buffer = put_at 0 (laid (word_at t k) (count t k) (λ f. kind_at t (4 * k + f)) (number_chosen h t (4 * k)) text) b;
+        }
+    room r =
+        says_length t k h b sound (there t k h l ∙ named) (omega (arith, size))
+        ∙ ap₂ (λ n m. record { numbers = (0, n); buffer = m }) size
+        (ap (λ p. opening p b) (made_laid t k h l) ∙ sym (put_opening (bytes t k h) b)
+        ∙ ap (λ n. put_at 0 (laid (word_at t k) (count t k) (λ f. kind_at t (4 * k + f)) (number_chosen h t (4 * k)) n) b) (sym e))

@@ -1,28 +1,18 @@
 -- Laws of reading: a message by places of its bytes, the questions, and a message cut off its front.
 -- Assumes nothing.
-use Rattle.std.proofs.Common.{◌≡◌, ℕ, zero, suc, ◌+◌, ◌-◌, ◌*◌, ◌%◌, ◌<◌, ◌≤◌, Bool, true, false, cond, ◌&&◌, eqb, leb, ◌↔◌, List, [], ◌∷◌, length, get_or, take, drop, sym, refl, ap, ◌∙◌, ap₂, le_of_suc-le-suc, not-suc-le-zero, add-zero, add-one, arith, length-drop, length-take-le, get_or-drop, get_or-take, take-take, drop-drop, ext_get_or, lt-ltb, eq-eqb, ne_eqb, le-leb, leb-true}
+use Rattle.std.proofs.Common.{◌≡◌, ℕ, zero, suc, ◌+◌, ◌-◌, ◌*◌, ◌%◌, ◌<◌, ◌≤◌, Bool, true, false, cond, ◌&&◌, eqb, leb, ◌↔◌, List, [], ◌∷◌, length, get_or, take, drop, sym, refl, ap, ◌∙◌, ap₂, le_of_suc-le-suc, not-suc-le-zero, add-zero, add-one, arith, length-drop, length-take-le, get_or-drop, get_or-take, take-take, drop-drop, ext_get_or, eq-eqb, ne_eqb, le-leb, leb-true}
 use mathlib.Core.Bool.{false≢true}
 use borrow.Author.Tests.{lt-leb}
 use Rattle.table.specs.Lists.{every, upto, first_no}
 use Rattle.table.specs.Table.{origin, within_kind, legal_label}
 use Rattle.table.specs.inner.Scans.{all}
 use Rattle.table.proofs.laws.Lists.{both, join, alike, refuted, upto_length, every_upto, upto_every, all_at, all_by}
+use Rattle.table.proofs.laws.Question.{number_no_zero}
 use Rattle.table.proofs.laws.View.{upto_at}
 use Rattle.message.specs.Message.{Value, number_of, first_number, number_at, pair_up, count_of, values_of, text_bytes, announced, whole, legal_value, legal_values, exact, legal_texts, front, opens, refusal, well_formed, front_of}
 use Rattle.message.specs.inner.Layout.{word_here, Framed}
 
 -- ---- bytes by their places
-
-pub part_places : (bytes : List ℕ) (at n : ℕ) → at + n ≤ length bytes → take n (drop at bytes) ≡ upto n (λ k. get_or bytes (at + k) 0)
-part_places bytes at n h =
-    ext_get_or 0 (take n (drop at bytes)) (upto n (λ k. get_or bytes (at + k) 0)) (size ∙ sym (upto_length n (λ k. get_or bytes (at + k) 0)))
-    (λ i l. here i (omega (arith, size)))
-  where
-    size : length (take n (drop at bytes)) ≡ n
-    size = length-take-le n (drop at bytes) (simp length-drop (omega arith))
-
-    here : (i : ℕ) → i < n → get_or (take n (drop at bytes)) i 0 ≡ get_or (upto n (λ k. get_or bytes (at + k) 0)) i 0
-    here i l = get_or-take n (drop at bytes) i 0 l ∙ get_or-drop at bytes i 0 ∙ sym (upto_at n (λ k. get_or bytes (at + k) 0) 0 i l)
 
 -- the number in offset form, from the four bytes as one number
 pub number_word : (bytes : List ℕ) (at : ℕ) → at + 4 ≤ length bytes → number_at bytes at ≡ (word_here bytes at + origin) % 4294967296
@@ -94,10 +84,6 @@ module _ (bytes : List ℕ) (arrays : 9 + 5 * count_of bytes ≤ length bytes) w
 
 -- ---- kinds, and the texts' bytes
 
-pub within_int : (k n : ℕ) → k ≡ 0 → n < 4294967296 → within_kind k n ≡ true
-unfolding within_kind
-within_int k n e l = rw e (lt-ltb n 4294967296 l)
-
 -- v is n without the origin, wrapped: small exactly where n lies just above the origin
 above_origin : (m n v : ℕ) → (v + origin) % 4294967296 ≡ n → v < 4294967296 → m < origin → leb v m ≡ (leb origin n && leb n (origin + m))
 above_origin m n v e l s =
@@ -118,13 +104,6 @@ module _ (k n v : ℕ) (e : (v + origin) % 4294967296 ≡ n) (l : v < 4294967296
   unfolding within_kind
   within_flag q = rw q (above_origin 1 n v e l (omega arith))
 
-pub within_unknown : (k n : ℕ) → (k ≡ 0 → ⊥) → (k ≡ 1 → ⊥) → (k ≡ 2 → ⊥) → within_kind k n ≡ false
-unfolding within_kind
-within_unknown zero n a b c = absurd (a refl)
-within_unknown (suc zero) n a b c = absurd (b refl)
-within_unknown (suc (suc zero)) n a b c = absurd (c refl)
-within_unknown (suc (suc (suc k))) n a b c = refl
-
 -- a text's length
 pub text_within : (k n : ℕ) → k ≡ 1 → within_kind k n ≡ true → (origin ≤ n) × (n ≤ origin + 64)
 unfolding within_kind
@@ -132,7 +111,7 @@ text_within k n e t =
     let u = both (leb origin n) (leb n (origin + 64)) (rw e at t) in
     (leb-true origin n u.0, leb-true n (origin + 64) u.1)
 
-text_more : (f : ℕ) (g : ℕ → Value) → text_bytes (upto (suc f) g) ≡ text_bytes (upto f g) + cond (eqb (g f).kind 1) ((g f).number - origin) 0
+pub text_more : (f : ℕ) (g : ℕ → Value) → text_bytes (upto (suc f) g) ≡ text_bytes (upto f g) + cond (eqb (g f).kind 1) ((g f).number - origin) 0
 unfolding text_bytes upto
 text_more zero g = omega arith
 text_more (suc f) g = omega (arith, text_more f (λ k. g (suc k)))
@@ -314,6 +293,11 @@ module _ (bytes : List ℕ) where
     pub refusal_texts : length bytes ≡ announced bytes → Framed bytes
     unfolding exact
     refusal_texts l = refusal_late ∙ ap (λ t. cond t (cond (legal_texts bytes) 0 22) 15) (eq-eqb (length bytes) (announced bytes) l)
+
+-- what `front` and `refusal` ask in turn
+pub ruleset front_cases = (front_13, front_14, front_yes, whole_parts)
+
+pub ruleset refusal_cases = (refusal_early, refusal_length, refusal_texts, front_length, number_no_zero)
 
 -- ---- a message cut off the front of longer bytes
 

@@ -1,6 +1,6 @@
 -- What a branch of a sound table holds is well formed: its label is legal, and a number within its range is one of the kind.
 -- Assumes nothing.
-use mathlib.Core.Path.{◌≡◌, sym, ap, ap₂, subst, ◌∙◌}
+use mathlib.Core.Path.{◌≡◌, ap, ap₂, subst, ◌∙◌}
 use mathlib.Core.Bool.{true, not, ◌&&◌, false≢true}
 use mathlib.Core.List.{List}
 use Prim.Native.Nat.{ℕ, zero, suc, ◌+◌, ◌*◌, ◌≤◌, ◌<◌}
@@ -19,7 +19,7 @@ use Rattle.table.proofs.laws.View.{Facts, sound_facts}
 use Rattle.message.specs.Message.{number_at, count_of, announced, read, legal_value, front, refusal, has_label}
 use Rattle.message.specs.Judge.{selected, judge}
 use Rattle.message.specs.inner.Layout.{Framed}
-use Rattle.message.proofs.laws.Message.{value_at, Whole, parts_whole, framed_formed, cut_values}
+use Rattle.message.proofs.laws.Message.{value_at, text_within, Whole, parts_whole, framed_formed, cut_values}
 use Rattle.message.proofs.claims.LabelInPlace.{label_in_place}
 use Rattle.table.specs.declared.Party.{Party}
 use Rattle.conversation.specs.Due.{first_length}
@@ -50,13 +50,20 @@ module _ (l h n : ℕ) (a : l ≤ n) (b : n ≤ h) where
   held_legal (suc (suc (suc k))) e = absurd (false≢true e)
 
 -- field f of a message against place k of the table's
-pub value_legal : (t message : List ℕ) (k f n : ℕ) → n ≡ number_at message (9 + count_of message + 4 * f) → legal_at t k ≡ true
-    → get_or message (9 + f) 0 ≡ kind_at t k → low_at t k ≤ n → n ≤ high_at t k → legal_value (value_at message f) ≡ true
+pub value_legal : (t message : List ℕ) (k f : ℕ) → legal_at t k ≡ true → get_or message (9 + f) 0 ≡ kind_at t k → inside t message k f ≡ true
+    → legal_value (value_at message f) ≡ true
+unfolding legal_value inside
+value_legal t message k f legal same e =
+    let n = number_at message (9 + count_of message + 4 * f) in
+    let p = both (leb (low_at t k) n) (leb n (high_at t k)) e in
+    ap (λ x. within_kind x n) same
+    ∙ held_legal (low_at t k) (high_at t k) n (leb-true (low_at t k) n p.0) (leb-true n (high_at t k) p.1) (kind_at t k) legal
+
+-- a text's number is its length above the origin
+pub text_length : (message : List ℕ) (f : ℕ) → legal_value (value_at message f) ≡ true → get_or message (9 + f) 0 ≡ 1 → {x : ℕ} → x ≡ (value_at message f).number
+    → (origin ≤ x) × (x ≤ origin + 64)
 unfolding legal_value
-value_legal t message k f n e legal same a b =
-    ap (λ x. within_kind x (number_at message (9 + count_of message + 4 * f))) same
-    ∙ ap (within_kind (kind_at t k)) (sym e)
-    ∙ held_legal (low_at t k) (high_at t k) n a b (kind_at t k) legal
+text_length message f l k e = rw e (text_within _ _ k l)
 
 -- ---- the straight way
 

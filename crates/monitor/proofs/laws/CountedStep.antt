@@ -15,8 +15,8 @@ use Rattle.message.specs.Message.{read}
 use Rattle.message.specs.Judge.{allowed}
 use Rattle.message.specs.Rules.{table_rules}
 use Rattle.conversation.specs.declared.State.{State}
-use Rattle.monitor.specs.declared.judge.Judged.{Judged}
-use Rattle.monitor.specs.declared.judge.Judged.TheVariants.{Allowed, Forbidden}
+use Rattle.std.specs.Prelude.{Result, Ok, Err}
+use Rattle.conversation.specs.declared.Reason.{Reason}
 use Rattle.conversation.specs.Step.{of_state, step_questions, Told, refusing, blaming, forwarding, judging}
 use Rattle.conversation.specs.Counts.{Counts, counts_sound, raised, raised_by, counted, counted_step}
 use Rattle.conversation.specs.inner.Keeping.{Rising}
@@ -30,7 +30,7 @@ together e f = ap₂ (λ a x. (a, x)) e f
 -- ---- a judgement is settled
 
 -- the branch in it is one of the state's
-pub settles : (t : Words) (j : Judged) (s : State) (c : Counts) (n room : ℕ) → sound_of t ≡ true → Rising t c → 8 ≤ n → n ≤ room
+pub settles : (t : Words) (j : Result ℕ Reason) (s : State) (c : Counts) (n room : ℕ) → sound_of t ≡ true → Rising t c → 8 ≤ n → n ≤ room
     → (message : List ℕ) → Selects t s.position message j → Settled t j s c n room
 settles t j s c n room sound rising eight holds message e =
     record {
@@ -41,13 +41,13 @@ settles t j s c n room sound rising eight holds message e =
 
 module _ (t : Words) (s : State) (c : Counts) (side : Party) (message out : List ℕ) where
   -- what it raises is what the verdict counts
-  pub settled_counted : (j : Judged) → Selects t s.position message j
+  pub settled_counted : (j : Result ℕ Reason) → Selects t s.position message j
       → (v : Told) → v ≡ (judging (judgement t j) s side message out).verdict
       → raised_by c s.position (judged_branch j) ≡ counted t s message v c
   unfolding judged_branch judgement judging forwarding blaming counted raised_by
-  settled_counted (Allowed b) p v e =
+  settled_counted (Ok b) p v e =
       sym (raised_at_is t s.position message c (some b) (p b refl)) ∙ ap (λ v. counted t s message v c) (sym e)
-  settled_counted (Forbidden why) p v e = ap (λ v. counted t s message v c) (sym e)
+  settled_counted (Err why) p v e = ap (λ v. counted t s message v c) (sym e)
 
   -- ---- a step
 
@@ -76,7 +76,7 @@ module _ (t : Words) (s : State) (c : Counts) (side : Party) (message out : List
           raised_at_is t s.position message c (some b) x.by_branch.selected_one,
         )
 
-    pub way_settled : first_no (step_questions t s side message (length out)) ≡ 0 → (j : Judged) → judgement t j ≡ said_here t s side message out
+    pub way_settled : first_no (step_questions t s side message (length out)) ≡ 0 → (j : Result ℕ Reason) → judgement t j ≡ said_here t s side message out
         → Selects t s.position message j
         → (judging (judgement t j) s side message out, raised_by c s.position (judged_branch j)) ≡ counted_step t s c side message out
     unfolding counted_step

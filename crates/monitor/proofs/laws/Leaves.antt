@@ -1,13 +1,13 @@
 -- One place of a table: what a compare says of the tests of specs/inner/Leaves.
 -- Assumes nothing.
 use mathlib.Core.Path.{◌≡◌, ap}
-use mathlib.Core.Bool.{true, false, not, ◌&&◌}
+use mathlib.Core.Bool.{Bool, true, false, ◌&&◌}
 use mathlib.Core.List.{List}
-use Prim.Native.Nat.{ℕ, ◌+◌, ◌*◌, ◌≤◌, ◌<◌}
+use Prim.Native.Nat.{ℕ, ◌+◌, ◌*◌}
 use lib.ListN.{get_or}
 use lib.Dec.{leb}
-use borrow.Author.Tests.{eq-eqb, ne_eqb, le-leb, lt-leb}
-use Rattle.table.proofs.laws.Lists.{join, left_fails, right_fails}
+use borrow.Author.Tests.{eq-eqb, ne_eqb}
+use Rattle.table.proofs.laws.Lists.{left_fails}
 use Rattle.table.specs.View.{owner_at, word_at, kind_at, low_at, high_at}
 use Rattle.message.specs.Message.{number_at, count_of, has_label}
 use Rattle.monitor.specs.inner.Leaves.{branch_named, kind_is, inside}
@@ -31,15 +31,8 @@ module _ (t message : List ℕ) (k f : ℕ) where
   unfolding kind_is
   kind_no n = ne_eqb (get_or message (9 + f) 0) (kind_at t k) n
 
-module _ (t message : List ℕ) (k f x : ℕ) (e : x ≡ number_at message (9 + count_of message + 4 * f)) where
-  pub below_range : x < low_at t k → not (inside t message k f) ≡ true
-  unfolding inside
-  below_range h = ap not (left_fails (leb (number_at message (9 + count_of message + 4 * f)) (high_at t k)) (rw e at (lt-leb (low_at t k) x h)))
-
-  pub above_range : high_at t k < x → not (inside t message k f) ≡ true
-  unfolding inside
-  above_range h = ap not (right_fails (leb (low_at t k) (number_at message (9 + count_of message + 4 * f))) (rw e at (lt-leb x (high_at t k) h)))
-
-  pub within_range : low_at t k ≤ x → x ≤ high_at t k → not (inside t message k f) ≡ false
-  unfolding inside
-  within_range a b = ap not (join (rw e at (le-leb (low_at t k) x a)) (rw e at (le-leb x (high_at t k) b)))
+-- what was read of field f, and tested against the range at its place
+pub inside_read : (t message : List ℕ) (k f : ℕ) {j n x : ℕ} {b : Bool} → b ≡ (leb (low_at t j) x && leb x (high_at t j)) → j ≡ k
+    → x ≡ number_at message n → n ≡ 9 + count_of message + 4 * f → inside t message k f ≡ b
+unfolding inside
+inside_read t message k f {j} {n} {x} b i e m = rw (b, i, e, m)

@@ -10,21 +10,21 @@ use Prim.Native.Nat.{ℕ, zero, suc, ◌+◌, ◌-◌, ◌≤◌, ◌<◌}
 use native.Mathlib.Omega.{arith}
 use lib.ListN.{length, take, drop}
 use Rattle.table.specs.Lists.{first_no}
-use Rattle.table.specs.View.{Words, target_at, sound_of}
+use Rattle.table.specs.View.{Words, sound_of}
 use Rattle.table.specs.declared.Party.{Party}
 use Rattle.table.specs.declared.Party.TheVariants.{Device, Host}
 use Rattle.table.proofs.laws.Lists.{never}
 use Rattle.conversation.specs.declared.State.{State}
 use Rattle.conversation.specs.declared.Stepped.{Stepped}
-use Rattle.monitor.specs.declared.straight.Ahead.{Ahead}
+use Rattle.monitor.specs.declared.lane.Taken as P
 use Rattle.conversation.specs.Step.{is_running, told, Told, refused, blamed, forwarded, Outcome, refusing, blaming, forwarding, stepping, outcome}
 use Rattle.conversation.specs.Due.{Awaited, of_side, awaited, first_length}
 use Rattle.conversation.specs.Due as Due
-use Rattle.conversation.specs.Counts.{Counts, raised, counted}
-use Rattle.conversation.specs.Batch.{Both, at_side, set_side, Left, lent, Lane, used_by, written_by, lane_on, Taken, taking, Batch, latest, took, turn_of, one_turn, go_on, turns, batch_questions, begun}
+use Rattle.conversation.specs.Counts.{Counts, counted}
+use Rattle.conversation.specs.Batch.{Both, at_side, Left, lent, Lane, used_by, written_by, lane_on, Taken, taking, Batch, took, turn_of, one_turn, go_on, turns, batch_questions, begun}
 use Rattle.conversation.specs.Conversation.{is_forwarded}
-use Rattle.conversation.specs.inner.Keeping.{Rising, moved_to, Heard, LaneIn, is_last_forwarded}
-use Rattle.monitor.specs.inner.Lanes.{bytes_waiting, On, Led, no_turn, a_turn, PassedOn}
+use Rattle.conversation.specs.inner.Keeping.{Rising, Heard, LaneIn, is_last_forwarded}
+use Rattle.monitor.specs.inner.Lanes.{bytes_waiting, On, Led, no_turn, a_turn, PassedOn, taken_of}
 use Rattle.conversation.proofs.laws.Step.{zero_or, entered, Way, refuses, forwards, blames, way}
 use Rattle.conversation.proofs.laws.Due.{first_cut}
 use Rattle.conversation.proofs.laws.Batch.{sound_parts, taken, takes_none, takes_one, now_due, used_in, written_in, left, turn_is, turn_by, stays, go_on_by, on_again, on_over, enough_turns, begun_within}
@@ -81,23 +81,22 @@ module _ (t : Words) (s : State) (c : Counts) (side : Party) (bytes : List ℕ) 
       pub got_written : l.written + written_by (told x.verdict) n ≤ length l.output
       got_written = rw (first_is, says) (written_in t s c side bytes l a i some_there)
 
-      pub got_one : (u w : ℕ) → u ≡ used_by (told x.verdict) n → w ≡ written_by (told x.verdict) n
-          → (d : Counts) → d ≡ counted t s got (told x.verdict) c
+      pub got_one : (d : Counts) → d ≡ counted t s got (told x.verdict) c
           → record {
             answer = some (told x.verdict);
             state = x.state;
             counts = d;
             lane =
                 record {
-                  used = l.used + u;
-                  written = l.written + w;
+                  used = l.used + used_by (told x.verdict) n;
+                  written = l.written + written_by (told x.verdict) n;
                   output = take l.written l.output ++ (out ++ drop (length l.output - l.written) room);
                 };
           }
           ≡ taking t s c side bytes l
       unfolding lane_on outcome
-      got_one u w p q d f =
-          rw (p, q, f, none_past l.written l.output i.written, append-nil out)
+      got_one d f =
+          rw (f, none_past l.written l.output i.written, append-nil out)
           (ap₂ (λ k m. taken t s c k m (outcome x out) l) first_is the_message
           ∙ ap (λ y. taken t s c (first_length rest) (take (first_length rest) rest) y l) so ∙ sym (takes_one t s c side bytes l some_there))
 
@@ -180,24 +179,13 @@ module _ (t : Words) (l : Both Left) where
       by (some forwarded, b) h = refl
 
   -- a message that goes straight
-  pub turn_straight : (b : Batch) (side : Party) → awaited t b.state ≡ of_side side → (r : Ahead) (after : List ℕ) → r.branch < 128
-      → PassedOn t b.state.position (at_side side l).bytes (at_side side b.lanes) after r
-      → one_turn t l b
-      ≡ (
-        some forwarded,
-        record {
-          state = moved_to (target_at t r.branch) b.state;
-          counts = raised b.counts b.state.position r.branch;
-          lanes =
-              set_side side
-              (record { used = (at_side side b.lanes).used + r.length; written = (at_side side b.lanes).written + r.length; output = after })
-              b.lanes;
-          last = some forwarded;
-        },
-      )
-  unfolding latest took turn_of
-  turn_straight b side a r after h p =
-      turn_is t l b (of_side side) a ∙ ap (λ x. took side x b) (p.straight h b.state b.counts side refl a)
+  pub turn_straight : (b : Batch) (side : Party) → awaited t b.state ≡ of_side side → (r : P.Taken) (d : Counts) (after : List ℕ)
+      → PassedOn t b.state b.counts (at_side side l).bytes (at_side side b.lanes) d after r
+      → one_turn t l b ≡ (some forwarded, (took side (taken_of r d after) b).1)
+  unfolding took turn_of
+  turn_straight b side a r d after p =
+      turn_is t l b (of_side side) a ∙ ap (λ x. took side x b) (sym (p.turn side a))
+      ∙ ap (λ (v : Option Told). (v, (took side (taken_of r d after) b).1)) p.forwards
 
   -- ---- as far as they lead
 

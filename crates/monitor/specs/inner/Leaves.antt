@@ -2,14 +2,15 @@
 -- Assumes nothing.
 use Rattle.std.specs.Prelude.{◌≡◌, Bool, true, false, ◌&&◌, List, ℕ, ◌+◌, ◌*◌, ◌≤◌, ◌<◌, length, get_or, take, leb, eqb}
 use Rattle.std.proofs.Math.Option.{Option, none, some}
+use Rattle.std.specs.Prelude.{Result, Ok, Err, Some, None}
+use Rattle.std.specs.Prelude.{Option as Found}
 use Rattle.table.specs.Table.{speaker, is_party}
 use Rattle.table.specs.View.{branches_of, owner_at, target_at, word_at, count_at, kind_at, low_at, high_at, sort_of, view}
 use Rattle.table.specs.inner.Scans.{all, legal_at}
 use Rattle.message.specs.Message.{number_at, count_of, values_of, text_bytes, read, legal_values, legal_texts, refusal, has_label}
 use Rattle.message.specs.Judge.{selected, Judgement, allowed, forbidden, judge}
 use Rattle.table.specs.declared.Party.{Party}
-use Rattle.monitor.specs.declared.judge.Judged.{Judged}
-use Rattle.monitor.specs.declared.judge.Judged.TheVariants.{Allowed, Forbidden}
+use Rattle.conversation.specs.declared.Reason.{Reason}
 use Rattle.conversation.specs.Step.{of_message, reason, outside}
 use Rattle.conversation.specs.Due.{first_length}
 use Rattle.conversation.specs.declared.State.{State}
@@ -17,20 +18,20 @@ use Rattle.conversation.specs.inner.Keeping.{Follows}
 use Rattle.table.specs.Lists.{first_no}
 
 -- what the inner judgement is; the branch in it
-unfoldable pub judgement : List ℕ → Judged → Judgement ℕ
-judgement t (Allowed b) = allowed (target_at t b)
-judgement t (Forbidden why) = forbidden (reason why) (outside why)
+unfoldable pub judgement : List ℕ → Result ℕ Reason → Judgement ℕ
+judgement t (Ok b) = allowed (target_at t b)
+judgement t (Err why) = forbidden (reason why) (outside why)
 
-unfoldable pub judged_branch : Judged → Option ℕ
-judged_branch (Allowed b) = some b
-judged_branch (Forbidden why) = none
+unfoldable pub judged_branch : Result ℕ Reason → Option ℕ
+judged_branch (Ok b) = some b
+judged_branch (Err why) = none
 
 -- a branch in it is the one that the message selects at state i
-abbrev pub Selects : List ℕ → ℕ → List ℕ → Judged → Type 0
+abbrev pub Selects : List ℕ → ℕ → List ℕ → Result ℕ Reason → Type 0
 Selects t i message j = (b : ℕ) → judged_branch j ≡ some b → selected (view t) i (read message) ≡ some b
 
 -- of a message of n bytes that is judged: the output holds it, and it can take the branch, if the judgement has one
-pub record Settled (t : List ℕ) (j : Judged) (s : State) (c : List ℕ) (n room : ℕ) : Type 0 where
+pub record Settled (t : List ℕ) (j : Result ℕ Reason) (s : State) (c : List ℕ) (n room : ℕ) : Type 0 where
   pub eight : 8 ≤ n
   pub holds : n ≤ room
   pub follows : (b : ℕ) → judged_branch j ≡ some b → Follows t b s c
@@ -44,6 +45,11 @@ pub record First (test : ℕ → Bool) (n r : ℕ) : Type 0 where
   pub within : r ≤ n
   pub before : (k : ℕ) → k < r → test k ≡ false
   pub there : r < n → test r ≡ true
+
+-- that place, if there is one
+abbrev pub FirstOf : (ℕ → Bool) → ℕ → Found ℕ → Type 0
+FirstOf test n None = First test n n
+FirstOf test n (Some r) = (r < n) × First test n r
 
 -- field f of a message has the kind at place k of the fields; its number is within the range there
 unfoldable pub kind_is : List ℕ → List ℕ → ℕ → ℕ → Bool

@@ -2,14 +2,27 @@
 use mathlib.Core.Path.{◌≡◌, ap, ◌∙◌}
 use mathlib.Core.Bool.{true, false, ◌&&◌, ◌||◌}
 use mathlib.Core.List.{List}
-use Prim.Native.Nat.{ℕ, ◌≤◌, ◌<◌}
+use Prim.Native.Nat.{ℕ, ◌+◌, ◌≤◌, ◌<◌}
+use native.Mathlib.Omega.{arith}
 use lib.ListN.{get_or}
 use lib.Dec.{leb, eqb}
 use borrow.Author.Tests.{eq-eqb, ne_eqb, le-leb, lt-leb}
 use Rattle.table.proofs.laws.Lists.{join, left_fails, right_fails}
-use Rattle.table.specs.View.{sort_at}
-use Rattle.conversation.specs.Counts.{n_at, counted_most}
+use Rattle.table.proofs.laws.SharesRight.{Adds, added_most}
+use Rattle.table.specs.View.{owner_at, sort_at}
+use Rattle.conversation.specs.Counts.{n_at, k_at, counted_most}
 use Rattle.conversation.specs.inner.Keeping.{sums_to}
+
+-- the sum of k's of 16 bits, one more among them
+pub sum_fits : (t c sums : List ℕ) (k v : ℕ) → Adds t sums (k_at c) k → ((i : ℕ) → get_or c i 0 < 65536) → k < 128 → owner_at t k < 32 → v ≡ k_at c k
+    → get_or sums (owner_at t k) 0 + v < 4294967296
+sum_fits t c sums k v s small l o e =
+    omega (
+      arith,
+      s.each (owner_at t k) o,
+      added_most t (owner_at t k) (k_at c) 65535 k (λ j m q. omega (arith, small (33 + j))),
+      small (33 + k),
+    )
 
 module _ (t c sums : List ℕ) (i : ℕ) where
   pub sums_end : sort_at t i ≡ 0 → sums_to t c sums i ≡ true
