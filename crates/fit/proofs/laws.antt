@@ -7,7 +7,6 @@ pub mod CoveredBy
 pub mod Followed
 pub mod Grown
 pub mod Pairs
-pub mod Passing
 pub mod Rest
 pub mod Searching
 pub mod Spoken

@@ -2,13 +2,10 @@
 // of moves. No code: the crate `fit` has it.
 #![tactic(auto)]
 
-use message::High;
-
-// The fit check's answer: the number of the question that got a no; it fits, with the number of pairs met; it fails, with the
-// number of moves shown and the field that is high in the last of them.
-#[derive(Clone, Copy)]
+// The fit check's answer: it fits, with the number of pairs met; or it fails, with the number of moves shown and the field that is
+// high in the last of them.
+#[derive(Clone, Copy, Debug, PartialEq, Eq)]
 pub enum Fitting {
-    Refused(u8),
-    Fits(u16),
-    Fails(u16, High),
+    Fits { pairs: u16 },
+    Fails { moves: u16, high: Option<u8> },
 }

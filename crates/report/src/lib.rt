@@ -4,14 +4,14 @@
 // changes. 16,384 bytes hold every report.
 #![tactic(auto)]
 
-ghost use Rattle.std.specs.Prelude.{◌≡◌, true, ◌≤◌, length};
-ghost use Rattle.table.specs.View.{sound_of};
-ghost use Rattle.report.specs.Report.{Written};
-ghost use Rattle.report.specs.inner.Playing.{Opened, Composed};
+ghost use Rattle.std.specs.Prelude.{◌≡◌, []};
+ghost use Rattle.table.specs.View.{view};
+ghost use Rattle.report.specs.Report.{Compared, Reported, Written};
 
 use machine::Fitting;
-use table::Table;
-use write::Whose;
+use play::Machine;
+use table::Sound;
+use write::Report;
 
 mod play;
 mod write;
@@ -20,43 +20,52 @@ mod write;
 pub fn report(protocol: &[u8], device: &[u8], out: &mut [u8]) -> usize
     ensures { Written protocol.now device.now out.old out.new result }
 {
-    let mut text = [0u8; 16384];
-    let n = compose(protocol, device, &mut text);
+    let mut report = Report::new();
+    compose(protocol, device, &mut report);
+    let bytes = report.bytes();
+    let n = bytes.len();
     if out.len() < n {
-        return 0;
+        return 0; // `Written` gives 0
     }
-    out[..n].copy_from_slice(&text[..n]);
+    out[..n].copy_from_slice(bytes);
     n
 }
 
-// The report opens a buffer that holds every report.
-fn compose(protocol: &[u8], device: &[u8], out: &mut [u8; 16384]) -> usize
-    ensures { Composed protocol.now device.now out.old out.new result }
+// The report of two texts.
+fn compose(protocol: &[u8], device: &[u8], report: &mut Report)
+    requires { report.old ≡ [] }
+    ensures { Reported protocol.now device.now report.new }
 {
     let p = text::read(protocol);
-    if p.question != 0 {
-        return write::refused(out, Whose::Protocol, p.question as u16, p.at as u16);
+    if p.question != 0 { // no plainer: `reads` gives this struct
+        report.refused(b"protocol", p.question as u16, p.at as u16);
+        return;
     }
     let d = text::read(device);
-    if d.question != 0 {
-        return write::refused(out, Whose::Device, d.question as u16, d.at as u16);
+    if d.question != 0 { // no plainer: `reads` gives this struct
+        report.refused(b"device", d.question as u16, d.at as u16);
+        return;
     }
-    compare(&d.table, &p.table, out)
+    // Question 9 need not be asked: tables that are read are sound.
+    let machine = Machine {
+        d: Sound { words: &d.table },
+        p: Sound { words: &p.table },
+    };
+    compare(machine, report);
 }
 
 // The report of two tables.
-fn compare(d: &Table, p: &Table, out: &mut [u8]) -> usize
-    requires { (sound_of d.now ≡ true) × (sound_of p.now ≡ true) × (16384 ≤ length out.old) }
-    ensures { Opened d.now p.now out.old out.new result }
+fn compare(m: Machine, report: &mut Report)
+    requires { report.old ≡ [] }
+    ensures { Compared (view m.entry.d.words.now) (view m.entry.p.words.now) report.new }
 {
-    let mut list = [0u16; 1024];
-    let r = fit::check(d, p, &mut list);
-    match r {
-        Fitting::Fits(c) => write::fit(out, c),
-        Fitting::Fails(k, h) => {
-            let at = write::head(out, k);
-            play::moves(d, p, &list, k, h, out, at)
+    let mut list = [0; 1024];
+    match fit::check(m.d.words, m.p.words, &mut list) {
+        Ok(Fitting::Fits { pairs }) => report.counted(b"fit ", pairs),
+        Ok(Fitting::Fails { moves, high }) => {
+            report.counted(b"no fit ", moves);
+            m.moves(&list[..usize::from(moves)], high, report);
         }
-        Fitting::Refused(_) => 0, // not met: sound tables pass 9, and the list has room for 32 times 32
+        Err(_) => {} // not met: sound tables pass 9, and the list has room for 32 times 32
     }
 }

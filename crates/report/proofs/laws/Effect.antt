@@ -26,7 +26,6 @@ use Rattle.table.specs.declared.Party.TheVariants.{Device, Host}
 use Rattle.machine.specs.Machine.{Move, from_device, from_host, by_side, effect}
 use Rattle.machine.specs.Fit.{field_named, spoken}
 use Rattle.report.specs.inner.Playing.{HasTurn, settled, is_device, kept, blames, move_at, MoveSaid, Speaking, MoveSpoken, Ready}
-use Rattle.report.specs.declared.play.Said.{Said}
 
 clash : {X : Type 0} → ◌≡◌ {A = ℕ} 0 1 → X
 clash z = absurd (omega arith)
@@ -108,25 +107,22 @@ pub record Speaks (own d p : Words) (side : Party) (i k : ℕ) (h : Option ℕ) 
   pub is : record { side = side; bytes = made (branch (view own) k) h } ≡ move_at (view d) (view p) i k h
 
 pub spoken_as : {own d p : Words} {side : Party} {i k : ℕ} {h : Option ℕ} → Speaks own d p side i k h
-    → {at : ℕ} {message before after : List ℕ} {r : Said}
-    → MoveSaid (record { side = side; bytes = made (branch (view own) k) h }) side h at message before after r
-    → MoveSpoken (view d) (view p) i k h at message before after r
-spoken_as {own} {d} {p} {side} {i} {k} {h} s {at} {message} {before} {after} {r} w =
+    → {message before after : List ℕ} {n : ℕ}
+    → MoveSaid (record { side = side; bytes = made (branch (view own) k) h }) h message before after n
+    → MoveSpoken (view d) (view p) i k h message before after side n
+spoken_as {own} {d} {p} {side} {i} {k} {h} s {message} {before} {after} {n} w =
     record {
-      said =
-          subst (λ (x : Party). MoveSaid (move_at (view d) (view p) i k h) x h at message before after r) (sym w.side_is)
-          (subst (λ (v : Move). MoveSaid v side h at message before after r) s.is w);
-      turn = s.turn ∙ ap some (sym w.side_is);
-      whose = ap (λ (v : Move). v.side) (sym s.is) ∙ sym w.side_is;
+      said = subst (λ (v : Move). MoveSaid v h message before after n) s.is w;
+      turn = s.turn;
+      whose = ap (λ (v : Move). v.side) (sym s.is);
     }
 
-pub said_size : {v : Move} {side : Party} {h : Option ℕ} {at : ℕ} {message before after : List ℕ} {r : Said}
-    → MoveSaid v side h at message before after r
+pub said_size : {v : Move} {h : Option ℕ} {message before after : List ℕ} {n : ℕ} → MoveSaid v h message before after n
     → length v.bytes ≤ 285
-said_size {message} {r} w =
-    omega (arith, w.short, ap length w.message_is, length-take-le r.length message (omega (arith, w.full, w.short)))
+said_size {v} {h} {message} {before} {after} {n} w =
+    omega (arith, w.short, ap length w.message_is, length-take-le n message (omega (arith, w.full, w.short)))
 
-module _ {d p : Words} {i k : ℕ} {h : Option ℕ} (r : Speaking d p i k h) where
+module _ {d p : Words} (sd : sound_of d ≡ true) (sp : sound_of p ≡ true) {i k : ℕ} {h : Option ℕ} (r : Speaking d p i k h) where
   formed_at : (s : Sort) → sort (view d) i ≡ s → well_formed (spoken (view d) (view p) s k h).bytes ≡ true
   formed_at s e = subst (λ (s : Sort). well_formed (spoken (view d) (view p) s k h).bytes ≡ true) e r.formed
 
@@ -137,7 +133,7 @@ module _ {d p : Words} {i k : ℕ} {h : Option ℕ} (r : Speaking d p i k h) whe
   unfolding spoken speaker
   device_speaks e =
       record {
-        has = existing d r.d_sound k h (formed_at sends e) (field_at_is sends e);
+        has = existing d sd k h (formed_at sends e) (field_at_is sends e);
         turn = ap speaker e;
         is = ap (λ (s : Sort). spoken (view d) (view p) s k h) (sym e);
       }
@@ -146,7 +142,7 @@ module _ {d p : Words} {i k : ℕ} {h : Option ℕ} (r : Speaking d p i k h) whe
   unfolding spoken speaker
   host_speaks e =
       record {
-        has = existing p r.p_sound k h (formed_at receives e) (field_at_is receives e);
+        has = existing p sp k h (formed_at receives e) (field_at_is receives e);
         turn = ap speaker e;
         is = ap (λ (s : Sort). spoken (view d) (view p) s k h) (sym e);
       }
@@ -169,9 +165,8 @@ module _ {d p : Words} {i k : ℕ} {h : Option ℕ} (r : Speaking d p i k h) whe
 pub both_turn : {d p : Words} {i j k : ℕ} {h : Option ℕ} → Ready d p i j k h → {side : Party} → speaker (sort (view d) i) ≡ some side
     → HasTurn d i side × HasTurn p j side
 both_turn {d} {p} {i} {j} r e = (
-  record { sound = r.speaking.d_sound; inside = r.speaking.i_inside; turn = e },
+  record { inside = r.speaking.i_inside; turn = e },
   record {
-    sound = r.speaking.p_sound;
     inside = r.j_inside;
     turn = ap speaker (sym (same_sort_eq (sort (view d) i) (sort (view p) j) r.alike)) ∙ e;
   },

@@ -20,7 +20,8 @@ use Rattle.conversation.specs.declared.Reason.TheVariants.{NoLabel, OtherKinds, 
 use Rattle.conversation.specs.declared.Verdict.{Verdict}
 use Rattle.conversation.specs.declared.Verdict.TheVariants.{Refused, Blamed, Forwarded}
 use Rattle.conversation.specs.Step.{may_speak, step_questions, blamed, forwarded, told, Outcome, forwarding, blaming, judging, stepping, outcome}
-use Rattle.conversation.specs.Counts.{Counts, counts_sound, legal_setting, start_questions, starting, counted_step}
+use Rattle.conversation.specs.Counts.{Counts, counts_sound, Started, legal_setting, start_questions, starting, started, counted_step}
+use Rattle.conversation.specs.declared.Started as P
 use Rattle.conversation.proofs.laws.Step.{turn_its}
 use Rattle.conversation.proofs.laws.Counts.{fresh_sound}
 use Rattle.together.specs.Together.{running_at}
@@ -50,23 +51,23 @@ heard_as Forwarded s = some s.position
 heard_as (Blamed side why) s = none
 heard_as (Refused q) s = none
 
-module _ (t : Words) (i : ℕ) (side : Party) (u : HasTurn t i side) (bytes : List ℕ) (formed : well_formed bytes ≡ true) (before : List ℕ)
-    (room : length bytes ≤ length before) (r : Stepped) (after : List ℕ) (c d : Counts) (begun : c ≡ (starting t 1).counts)
-    (k : (outcome r after, d) ≡ counted_step t (running_at i) c side bytes before) where
+module _ (t : Words) (s : sound_of t ≡ true) (i : ℕ) (side : Party) (u : HasTurn t i side) (bytes : List ℕ) (formed : well_formed bytes ≡ true) (before : List ℕ)
+    (room : length bytes ≤ length before) (r : Stepped) (after : List ℕ) (b : P.Started) (begun : started b ≡ starting t 1) (d : Counts)
+    (k : (outcome r after, d) ≡ counted_step t (running_at i) b.counts side bytes before) where
   -- counts that are started pass 9, so the step is what it is without them
   e : outcome r after ≡ stepping t (running_at i) side bytes before
-  unfolding counted_step
-  e = ap (λ (x : Outcome × Counts). x.0) k ∙ rw (ap (counts_sound t) begun ∙ started_sound t u.sound)
+  unfolding counted_step started
+  e = ap (λ (x : Outcome × Counts). x.0) k ∙ rw (ap (λ (x : Started). counts_sound t x.counts) begun ∙ started_sound t s)
 
   no_question : first_no (step_questions t (running_at i) side bytes (length before)) ≡ 0
-  no_question = asks t u.sound i u.inside side bytes formed before room ∙ in_turn (view t).edition (sort (view t) i) side u.turn
+  no_question = asks t s i u.inside side bytes formed before room ∙ in_turn (view t).edition (sort (view t) i) side u.turn
 
   -- so the message is judged
   judges : outcome r after ≡ judging (judge (view t) i (read bytes)) (running_at i) side bytes before
-  judges = e ∙ turn t u.sound i u.inside side bytes formed before room no_question (ap (is_party side) u.turn ∙ turn_its side)
+  judges = e ∙ turn t s i u.inside side bytes formed before room no_question (ap (is_party side) u.turn ∙ turn_its side)
 
   forwards : {b : ℕ} → allows (view t) i (read bytes) ≡ some b → outcome r after ≡ forwarding b bytes (running_at i) before
-  forwards {b} f = judges ∙ judged_some t u.sound i u.inside side bytes formed before room b f
+  forwards {b} f = judges ∙ judged_some t s i u.inside side bytes formed before room b f
 
   pub hears : heard_as r.verdict r.state ≡ allows (view t) i (read bytes)
   unfolding heard_as told outcome forwarding blaming
@@ -90,5 +91,5 @@ module _ (t : Words) (i : ℕ) (side : Party) (u : HasTurn t i side) (bytes : Li
           let q = forwards f in
           on r.verdict r.state b (ap (λ (x : Outcome). x.verdict) q) (ap (λ (x : Outcome). x.state.position) q) ∙ sym f
       go none f =
-          let q = judges ∙ (judged_none t u.sound i u.inside side bytes formed before room f).2 in
+          let q = judges ∙ (judged_none t s i u.inside side bytes formed before room f).2 in
           off r.verdict r.state (ap (λ (x : Outcome). x.verdict) q) ∙ sym f

@@ -1,6 +1,6 @@
 -- A branch's message, as it is made and as its line shows it.
 -- Assumes nothing.
-use mathlib.Core.Path.{◌≡◌, sym, ap, ap₂, ◌∙◌}
+use mathlib.Core.Path.{◌≡◌, refl, sym, ap, ap₂, ◌∙◌}
 use mathlib.Core.Bool.{true}
 use mathlib.Core.List.{List, ◌++◌}
 use mathlib.Core.Option.{Option}
@@ -10,20 +10,21 @@ use lib.ListN.{length, take, drop, length-append, length-drop}
 use lib.Seq.{take-append_seam}
 use lib.Dec.{ltb}
 use borrow.Author.Tests.{ltb-true}
+use Rattle.std.specs.Prelude.{Result, Ok, Err}
+use Rattle.std.specs.Result.{IsOk}
 use Rattle.table.specs.Table.{Branch}
 use Rattle.table.specs.View.{Words, branches_of, word_at, view, label_of, sound_of}
 use Rattle.table.proofs.laws.Lists.{both}
 use Rattle.table.proofs.laws.View.{sound_facts, view_sound, branches_of_is}
 use Rattle.table.proofs.laws.Table.{Legal}
 use Rattle.message.specs.Message.{Message, read, well_formed}
-use Rattle.message.specs.Make.{made, branch_message, branch, exists, names_field, opening, made_numbers, Making, making}
-use Rattle.message.specs.declared.Made.{Made}
+use Rattle.message.specs.Make.{made, made_numbers, branch_message, branch, exists, names_field, opening, Making, making}
 use Rattle.message.proofs.laws.Making.{branch_at_is, made_size, texts_few, says_length}
 use Rattle.message.proofs.laws.BranchMessage.{branch_legal, made_read, made_well_formed}
 use Rattle.table.specs.declared.Party.{Party}
+use Rattle.table.specs.declared.refusal.Question.{Question}
 use Rattle.report.specs.Report.{line, direction, high_part, move_line}
 use Rattle.table.specs.Ascii.{letters}
-use Rattle.message.specs.declared.Made.TheVariants as M
 
 module _ (t : Words) (s : sound_of t ≡ true) (k : ℕ) (h : Option ℕ) (x : exists (view t) k h ≡ true) where
   pub branch_there : k < branches_of t
@@ -32,6 +33,9 @@ module _ (t : Words) (s : sound_of t ≡ true) (k : ℕ) (h : Option ℕ) (x : e
       let l = ltb-true k (length (view t).branches)
       (both (ltb k (length (view t).branches)) (names_field h (branch (view t) k)) x).0 in
       omega (arith, branches_of_is t)
+
+  pub branch_few : k < 128
+  branch_few = omega (arith, branch_there, (sound_facts t s).room)
 
   legal : Legal (branch (view t) k)
   legal = branch_legal (view t) (view_sound t s) k (omega (arith, branch_there, branches_of_is t)) h
@@ -59,15 +63,15 @@ module _ (t : Words) (s : sound_of t ≡ true) (k : ℕ) (h : Option ℕ) (x : e
   opens b = take-append_seam (made (branch (view t) k) h) (drop (length (made (branch (view t) k) h)) b)
 
   -- what `make` answers
-  module _ (b after : List ℕ) (r : Made) (room : length b ≡ 285) (e : made_numbers r ≡ (making t k h b).numbers)
-      (f : after ≡ (making t k h b).buffer) where
-    answer : made_numbers r ≡ (0, length (made (branch (view t) k) h))
-    answer = e ∙ ap (λ (m : Making). m.numbers) (makes b room)
+  module _ (b after : List ℕ) (room : length b ≡ 285) (f : after ≡ (making t k h b).buffer) where
+    answer : {x : ℕ × ℕ} → x ≡ (making t k h b).numbers → x ≡ (0, length (made (branch (view t) k) h))
+    answer e = e ∙ ap (λ (m : Making). m.numbers) (makes b room)
 
-    pub never_refused : {X : Type 0} {q : ℕ} → r ≡ M.Refused q → X
+    pub is_made : (r : Result ℕ Question) → made_numbers r ≡ (making t k h b).numbers → IsOk r
     unfolding made_numbers
-    never_refused {q} g =
-        let z : ◌≡◌ {A = ℕ} 0 (length (made (branch (view t) k) h)) = ap (λ (p : ℕ × ℕ). p.1) (sym (ap made_numbers g) ∙ answer) in
+    is_made (Ok n) e = refl
+    is_made (Err q) e =
+        let z : ◌≡◌ {A = ℕ} 0 (length (made (branch (view t) k) h)) = ap (λ (p : ℕ × ℕ). p.1) (answer e) in
         absurd (omega (arith, size_least))
 
     pub full : length after ≡ 285
@@ -77,10 +81,9 @@ module _ (t : Words) (s : sound_of t ≡ true) (k : ℕ) (h : Option ℕ) (x : e
         ∙ length-append (made (branch (view t) k) h) (drop (length (made (branch (view t) k) h)) b)
         ∙ omega (arith, room, size_most, length-drop (length (made (branch (view t) k) h)) b)
 
-    module _ {n : ℕ} (g : r ≡ M.Length n) where
+    module _ {n : ℕ} (e : (0, n) ≡ (making t k h b).numbers) where
       length_is : n ≡ length (made (branch (view t) k) h)
-      unfolding made_numbers
-      length_is = ap (λ (p : ℕ × ℕ). p.1) (sym (ap made_numbers g) ∙ answer)
+      length_is = ap (λ (p : ℕ × ℕ). p.1) (answer e)
 
       pub short : n ≤ 285
       short = omega (arith, length_is, size_most)

@@ -1,15 +1,15 @@
 -- The loop over the moves: what is written and what remains are the whole text; where moves remain the machine runs at the pair of
 -- states that is kept, and after the last one the pair says how it stands.
 -- Assumes nothing.
-use mathlib.Core.Path.{◌≡◌, refl, sym, ap, ap₂, ◌∙◌, subst, subst₂}
+use mathlib.Core.Path.{◌≡◌, refl, sym, ap, ap₂, ◌∙◌, subst}
 use mathlib.Core.Bool.{Bool, true, false, cond, false≢true}
 use mathlib.Core.List.{List, [], ◌∷◌, ◌++◌, append_assoc}
 use mathlib.Core.Option.{Option, none, some}
 use Prim.Native.Nat.{ℕ, ◌+◌, ◌-◌, ◌*◌, ◌≤◌, ◌<◌}
 use native.Mathlib.Numerals.{add-one}
 use native.Mathlib.Omega.{arith}
-use lib.ListN.{length, get_or, take, drop, length-append, length-drop}
-use lib.Seq.{drop-cons, drop-length, length-take-le, get_or-take}
+use lib.ListN.{length, get_or, drop, length-drop}
+use lib.Seq.{drop-cons, drop-length}
 use lib.Dec.{ltb}
 use borrow.Author.Tests.{lt-ltb, le-ltb}
 use Rattle.table.specs.Table.{same_sort, sort}
@@ -17,8 +17,6 @@ use Rattle.table.specs.View.{Words, states_of, view, sound_of}
 use Rattle.table.proofs.laws.View.{sound_facts, sorts_of}
 use Rattle.message.specs.Message.{Message}
 use Rattle.message.specs.Judge.{allows}
-use Rattle.message.specs.inner.Layout.{put_at}
-use Rattle.message.proofs.laws.Layout.{put_length, put_put, put_none}
 use Rattle.machine.specs.Machine.{Standing, running, device_blamed, host_blamed, jammed, Machine, arrived, fresh_machine, Move, Effect, nothing, forward, halt, effect, does, after, move, play, run, bad, is_forward, Fewest}
 use Rattle.machine.specs.Fit.{shown, Failing}
 use Rattle.machine.proofs.laws.Goes.{goes_by}
@@ -26,9 +24,8 @@ use Rattle.fit.proofs.laws.CoveredBy.{view_sound}
 use Rattle.machine.specs.inner.Walks.{does_at}
 use Rattle.machine.proofs.laws.Does.{Doing, device_on, host_on, doing, does_there}
 use Rattle.report.specs.Report.{move_line, ending}
-use Rattle.report.specs.inner.Playing.{rules, lines_from, blames, kept, pair_of, Plays, move_at, Ready, high_in, ListShows}
+use Rattle.report.specs.inner.Playing.{rules, lines_from, all_lines, blames, kept, pair_of, Plays, move_at, Ready, high_in, ListShows}
 use Rattle.report.specs.declared.play.Pair.{Pair}
-use Rattle.report.specs.declared.play.Played.{Played}
 use Rattle.report.proofs.laws.Remaining.{at_last, Remains, remains_start, first, first_real, first_forwarded, remains_next, remains_running, last_bad, rest_none, rest_first}
 
 -- ---- one move from a pair of one sort
@@ -115,32 +112,34 @@ high_last ks n h l = go (drop (n + 1) ks) (length-drop (n + 1) ks)
     go [] e = rw (le-ltb (n + 1) (length ks) (omega (arith, e)))
     go (k ∷ r) e = rw (lt-ltb (n + 1) (length ks) (omega (arith, e)))
 
-pub record Playing (d p : Words) (ks : List ℕ) (h : Option ℕ) (at : ℕ) (before after : List ℕ) (r : Pair) (next n : ℕ) : Type 0 where
+-- the field that is high is one of the last move's
+pub none_high : (n K : ℕ) (h : Option ℕ) → n + 1 < K → none ≡ high_in n K h
+unfolding high_in
+none_high n K h l = rw (lt-ltb (n + 1) K l)
+
+pub last_high : (n K : ℕ) (h : Option ℕ) → K ≤ n + 1 → h ≡ high_in n K h
+unfolding high_in
+last_high n K h l = rw (le-ltb (n + 1) K l)
+
+pub record Playing (d p : Words) (ks : List ℕ) (h : Option ℕ) (before now : List ℕ) (r : Pair) (n : ℕ) : Type 0 where
   pub machine : Machine ℕ ℕ
-  pub written : List ℕ
   pub most : n ≤ length ks
-  pub next_is : next ≡ at + length written
-  pub out_is : after ≡ put_at at written before
-  pub whole : written ++ lines_from (view d) (view p) machine (drop n ks) h
-      ≡ lines_from (view d) (view p) (fresh_machine (rules d) (rules p)) ks h
-  pub bound : next ≤ at + 13 * n + 11
-  pub bound_low : n < length ks → next ≤ at + 13 * n
+  pub whole : now ++ lines_from (view d) (view p) machine (drop n ks) h ≡ before ++ all_lines (view d) (view p) ks h
+  pub bound : length now ≤ length before + 13 * n + 11
+  pub bound_low : n < length ks → length now ≤ length before + 13 * n
   pub going : n < length ks
       → (machine ≡ arrived (rules d) (rules p) r.state r.position) × (r.state < states_of d) × (r.position < states_of p)
       × Remains (view d) (view p) machine (drop n ks) h
   pub over : n ≡ length ks → ending machine.standing ≡ cond r.blamed (ending device_blamed) (ending jammed)
 
 module _ (d p : Words) (ks : List ℕ) (h : Option ℕ) (sd : sound_of d ≡ true) (sp : sound_of p ≡ true) where
-  pub playing_start : (at : ℕ) (before : List ℕ) → Failing (view d) (view p) ks h → Fewest (rules d) (rules p) (length ks)
-      → Playing d p ks h at before before (record { state = 0; position = 0; blamed = false }) at 0
+  pub playing_start : (before : List ℕ) → Failing (view d) (view p) ks h → Fewest (rules d) (rules p) (length ks)
+      → Playing d p ks h before before (record { state = 0; position = 0; blamed = false }) 0
   unfolding fresh_machine arrived bad shown run play
-  playing_start at before f g =
+  playing_start before f g =
       record {
         machine = fresh_machine (rules d) (rules p);
-        written = [];
         most = omega arith;
-        next_is = omega arith;
-        out_is = put_none at before;
         whole = refl;
         bound = omega arith;
         bound_low = λ l. omega arith;
@@ -157,7 +156,7 @@ module _ (d p : Words) (ks : List ℕ) (h : Option ℕ) (sd : sound_of d ≡ tru
       none_left [] f e = jams (same_sort (sort (view d) 0) (sort (view p) 0)) f.ends_badly
       none_left (k ∷ r) f e = absurd (omega (arith, e))
 
-  module _ {at : ℕ} {before now : List ℕ} {r : Pair} {next n : ℕ} (g : Playing d p ks h at before now r next n) (l : n < length ks) where
+  module _ {before now : List ℕ} {r : Pair} {n : ℕ} (g : Playing d p ks h before now r n) (l : n < length ks) where
     abbrev m : Machine ℕ ℕ
     m = arrived (rules d) (rules p) r.state r.position
 
@@ -185,7 +184,7 @@ module _ (d p : Words) (ks : List ℕ) (h : Option ℕ) (sd : sound_of d ≡ tru
         let w = g.going l in
         let f = first_real (view d) (view p) m k left h remains in
         subst (λ (x : Option ℕ). Ready d p r.state r.position k x) (sym field)
-        (record { speaking = record { d_sound = sd; p_sound = sp; i_inside = w.1; formed = f.0; field = f.1 }; j_inside = w.2; alike = alike })
+        (record { speaking = record { i_inside = w.1; formed = f.0; field = f.1 }; j_inside = w.2; alike = alike })
 
 -- ---- one move more
 
@@ -220,136 +219,73 @@ unfolding at_last
 low_on [] h l = absurd (omega (arith, l))
 low_on (n ∷ _) h l = refl
 
-module _ (d p : Words) (ks : List ℕ) (h : Option ℕ) (sd : sound_of d ≡ true) (sp : sound_of p ≡ true)
-    {at : ℕ} {before now : List ℕ} {r : Pair} {next n : ℕ} (g : Playing d p ks h at before now r next n) where
-  -- what is left after n moves
-  left_after : length (drop (n + 1) ks) ≡ length ks - (n + 1)
-  left_after = length-drop (n + 1) ks
+module _ (d p : Words) (sd : sound_of d ≡ true) (sp : sound_of p ≡ true) (ks : List ℕ) (h : Option ℕ) (s : ListShows d p ks h) where
+  pub shows_start : (before : List ℕ) → Playing d p ks h before before (record { state = 0; position = 0; blamed = false }) 0
+  shows_start before = playing_start d p ks h sd sp before s.failing s.fewest
 
-  pub playing_more : n < length ks → at + 13 * length ks ≤ length before → {after : List ℕ} {played : Played}
-      → Plays (view d) (view p) r.state r.position
-      (move_at (view d) (view p) r.state (get_or ks n 0) (high_in n (length ks) h)) (high_in n (length ks) h) next now after played
-      → Playing d p ks h at before after played.pair played.at (n + 1)
-  unfolding arrived
-  playing_more l room {after} {played} w₀ =
-      record {
-        machine = move (rules d) (rules p) m v;
-        written = g.written ++ text;
-        most = omega arith;
-        next_is = omega (arith, w.at_is, g.next_is, length-append g.written text);
-        out_is =
-            w.written ∙ ap₂ (λ x y. put_at x text y) g.next_is g.out_is
-            ∙ put_put at g.written before (omega (arith, g.next_is, g.bound_low l)) text;
-        whole =
-            append_assoc g.written text (lines_from (view d) (view p) (move (rules d) (rules p) m v) left h)
-            ∙ ap (λ x. g.written ++ x) (sym (rest_first (view d) (view p) m k left h)
-            ∙ ap₂ (λ x y. lines_from (view d) (view p) x y h) (sym (g.going l).0) (sym (rest_at ks n l)))
-            ∙ g.whole;
-        bound = omega (arith, w.most, g.bound_low l);
-        bound_low = λ q. omega (arith, w.most_low (low_on left h (omega (arith, left_after))), g.bound_low l);
-        going =
-            λ q. going_on d p sd sp r.state r.position k h near played.pair left rem w.pair_is (omega (arith, left_after));
-        over =
-            λ q. ending_on d p sd sp r.state r.position k h near played.pair left rem w.pair_is (omega (arith, left_after));
-      }
-    where
-      m : Machine ℕ ℕ
-      m = arrived (rules d) (rules p) r.state r.position
-
-      left : List ℕ
-      left = drop (n + 1) ks
-
-      k : ℕ
-      k = get_or ks n 0
-
-      v : Move
-      v = first (view d) (view p) m k left h
-
-      text : List ℕ
-      text = move_line v (at_last left h)
-
-      rem : Remains (view d) (view p) m (k ∷ left) h
-      rem = remains d p ks h sd sp g l
-
-      near : same_sort (sort (view d) r.state) (sort (view p) r.position) ≡ true
-      near = alike d p ks h sd sp g l
-
-      w : Plays (view d) (view p) r.state r.position v (at_last left h) next now after played
-      w =
-          subst (λ (x : Option ℕ). Plays (view d) (view p) r.state r.position
-          (move_at (view d) (view p) r.state k x) x next now after played)
-          (high_last ks n h l) w₀
-
-  -- the last line
-  abbrev last : List ℕ
-  last = cond r.blamed (ending device_blamed) (ending jammed)
-
-  pub playing_end : length ks ≤ n → at + 13 * length ks + 24 ≤ length before → {after : List ℕ} {x : ℕ}
-      → (x ≡ next + length last) × (x ≤ next + 7) × (after ≡ put_at next last now)
-      → (x ≡ at + length (lines_from (view d) (view p) (fresh_machine (rules d) (rules p)) ks h)) × (x ≤ length before)
-      × (after ≡ put_at at (lines_from (view d) (view p) (fresh_machine (rules d) (rules p)) ks h) before)
-  playing_end l room {after} {x} e =
-      let fits : at + length g.written ≤ length before = omega (arith, g.next_is, g.bound, g.most) in (
-        omega (arith, e.0, g.next_is, length-append g.written last, ap length whole),
-        omega (arith, e.1, g.bound, g.most),
-        e.2 ∙ ap₂ (λ x y. put_at x last y) g.next_is g.out_is ∙ put_put at g.written before fits last
-            ∙ ap (λ x. put_at at x before) whole,
-      )
-    where
-      all : n ≡ length ks
-      all = omega (arith, g.most, l)
-
-      whole : g.written ++ last ≡ lines_from (view d) (view p) (fresh_machine (rules d) (rules p)) ks h
-      whole =
-          ap (λ x. g.written ++ x)
-          (sym (g.over all) ∙ sym (rest_none (view d) (view p) g.machine h)
-          ∙ ap (λ x. lines_from (view d) (view p) g.machine x h) (sym (ap (λ n. drop n ks) all ∙ drop-length ks)))
-          ∙ g.whole
-
-  pub now_length : at + 13 * length ks + 24 ≤ length before → length now ≡ length before
-  now_length room = ap length g.out_is ∙ put_length at g.written before (omega (arith, g.next_is, g.bound, g.most))
-
--- ---- the same of a list that shows a fault
-
-module _ (d p : Words) (list : List ℕ) (K : ℕ) (h : Option ℕ) (s : ListShows d p list K h) where
-  pub many : length (take K list) ≡ K
-  many = length-take-le K list (omega (arith, s.few, s.long))
-
-  pub shows_start : (at : ℕ) (before : List ℕ)
-      → Playing d p (take K list) h at before before (record { state = 0; position = 0; blamed = false }) at 0
-  shows_start at before =
-      playing_start d p (take K list) h s.d_sound s.p_sound at before s.failing
-      (subst (λ (n : ℕ). Fewest (rules d) (rules p) n) (sym many) s.fewest)
-
-  module _ {at : ℕ} {before now : List ℕ} (low : at ≤ 13) (room : 16384 ≤ length before) {r : Pair} {next n : ℕ}
-      (g : Playing d p (take K list) h at before now r next n) where
-    pub shows_length : length now ≡ length before
-    shows_length = now_length d p (take K list) h s.d_sound s.p_sound g (omega (arith, many, s.few))
-
-    pub shows_room : n < K → next + 24 ≤ length now
-    shows_room l = omega (arith, shows_length, g.bound_low (omega (arith, many)), s.few)
-
-    pub shows_ready : n < K → {x : Option ℕ} → x ≡ high_in n K h → Ready d p r.state r.position (get_or list n 0) x
+  module _ {before now : List ℕ} {r : Pair} {n : ℕ} (g : Playing d p ks h before now r n) where
+    pub shows_ready : n < length ks → {x : Option ℕ} → x ≡ high_in n (length ks) h → Ready d p r.state r.position (get_or ks n 0) x
     shows_ready l {x} e =
-        subst (λ (x : Option ℕ). Ready d p r.state r.position (get_or list n 0) x) (sym e)
-        (subst₂ (λ (k m : ℕ). Ready d p r.state r.position k (high_in n m h)) (get_or-take K list n 0 l) many
-        (ready d p (take K list) h s.d_sound s.p_sound g (omega (arith, many))))
+        subst (λ (x : Option ℕ). Ready d p r.state r.position (get_or ks n 0) x) (sym e) (ready d p ks h sd sp g l)
 
-    pub shows_more : n < K → {x : Option ℕ} → x ≡ high_in n K h → {after : List ℕ} {played : Played}
-        → Plays (view d) (view p) r.state r.position
-        (move_at (view d) (view p) r.state (get_or list n 0) x) x next now after played
-        → Playing d p (take K list) h at before after played.pair played.at (n + 1)
-    shows_more l {x} e {after} {played} w =
-        playing_more d p (take K list) h s.d_sound s.p_sound g (omega (arith, many)) (omega (arith, many, s.few))
-        (subst₂ (λ (k m : ℕ). Plays (view d) (view p) r.state r.position
-        (move_at (view d) (view p) r.state k (high_in n m h)) (high_in n m h) next now after played)
-        (sym (get_or-take K list n 0 l)) (sym many)
-        (subst (λ (x : Option ℕ). Plays (view d) (view p) r.state r.position
-        (move_at (view d) (view p) r.state (get_or list n 0) x) x next now after played) e w))
+    -- what is left after n moves
+    left_after : length (drop (n + 1) ks) ≡ length ks - (n + 1)
+    left_after = length-drop (n + 1) ks
 
-    pub shows_end : K ≤ n → {after : List ℕ} {x : ℕ}
-        → (x ≡ next + length (cond r.blamed (ending device_blamed) (ending jammed))) × (x ≤ next + 7)
-        × (after ≡ put_at next (cond r.blamed (ending device_blamed) (ending jammed)) now)
-        → (x ≡ at + length (lines_from (view d) (view p) (fresh_machine (rules d) (rules p)) (take K list) h)) × (x ≤ length before)
-        × (after ≡ put_at at (lines_from (view d) (view p) (fresh_machine (rules d) (rules p)) (take K list) h) before)
-    shows_end l e = playing_end d p (take K list) h s.d_sound s.p_sound g (omega (arith, many)) (omega (arith, many, s.few)) e
+    pub shows_more : n < length ks → {x : Option ℕ} → x ≡ high_in n (length ks) h → {after : List ℕ} {next : Pair}
+        → Plays (view d) (view p) r.state r.position (move_at (view d) (view p) r.state (get_or ks n 0) x) x now after next
+        → Playing d p ks h before after next (n + 1)
+    unfolding arrived
+    shows_more l {x} e {after} {next} w₀ =
+        record {
+          machine = move (rules d) (rules p) m v;
+          most = omega arith;
+          whole =
+              ap (λ l. l ++ lines_from (view d) (view p) (move (rules d) (rules p) m v) left h) w.written
+              ∙ append_assoc now text (lines_from (view d) (view p) (move (rules d) (rules p) m v) left h)
+              ∙ ap (λ l. now ++ l) (sym (rest_first (view d) (view p) m k left h)
+              ∙ ap₂ (λ x y. lines_from (view d) (view p) x y h) (sym (g.going l).0) (sym (rest_at ks n l)))
+              ∙ g.whole;
+          bound = omega (arith, w.most, g.bound_low l);
+          bound_low = λ q. omega (arith, w.most_low (low_on left h (omega (arith, left_after))), g.bound_low l);
+          going =
+              λ q. going_on d p sd sp r.state r.position k h near next left rem w.pair_is (omega (arith, left_after));
+          over =
+              λ q. ending_on d p sd sp r.state r.position k h near next left rem w.pair_is (omega (arith, left_after));
+        }
+      where
+        m : Machine ℕ ℕ
+        m = arrived (rules d) (rules p) r.state r.position
+
+        left : List ℕ
+        left = drop (n + 1) ks
+
+        k : ℕ
+        k = get_or ks n 0
+
+        v : Move
+        v = first (view d) (view p) m k left h
+
+        text : List ℕ
+        text = move_line v (at_last left h)
+
+        rem : Remains (view d) (view p) m (k ∷ left) h
+        rem = remains d p ks h sd sp g l
+
+        near : same_sort (sort (view d) r.state) (sort (view p) r.position) ≡ true
+        near = alike d p ks h sd sp g l
+
+        w : Plays (view d) (view p) r.state r.position v (at_last left h) now after next
+        w =
+            subst (λ (x : Option ℕ). Plays (view d) (view p) r.state r.position
+            (move_at (view d) (view p) r.state k x) x now after next)
+            (e ∙ high_last ks n h l) w₀
+
+    pub shows_end : length ks ≤ n → {after : List ℕ} → after ≡ now ++ cond r.blamed (ending device_blamed) (ending jammed)
+        → after ≡ before ++ all_lines (view d) (view p) ks h
+    shows_end l e =
+        let all : n ≡ length ks = omega (arith, g.most, l) in
+        e ∙ ap (λ l. now ++ l)
+        (sym (g.over all) ∙ sym (rest_none (view d) (view p) g.machine h)
+        ∙ ap (λ l. lines_from (view d) (view p) g.machine l h) (sym (ap (λ n. drop n ks) all ∙ drop-length ks)))
+        ∙ g.whole

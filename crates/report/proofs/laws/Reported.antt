@@ -1,13 +1,13 @@
 -- The report from its parts: a refused text; the fit check's answers over two sound tables; and the lent buffer.
 -- Assumes nothing.
-use mathlib.Core.Path.{◌≡◌, refl, sym, ap, ap₂, ◌∙◌, subst, subst₂}
+use mathlib.Core.Path.{◌≡◌, refl, sym, ap, ◌∙◌, subst, subst₂}
 use mathlib.Core.Bool.{true, false}
 use mathlib.Core.Logic.{⊎_elim}
 use mathlib.Core.List.{List, [], ◌∷◌, ◌++◌}
-use Prim.Native.Nat.{ℕ, suc, ◌+◌, ◌*◌, ◌≤◌, ◌<◌}
+use Prim.Native.Nat.{ℕ, suc, ◌*◌, ◌≤◌, ◌<◌}
 use native.Mathlib.Omega.{arith}
-use lib.ListN.{length, take, drop, length-append, length-drop}
-use lib.Seq.{take_at, take-append_seam}
+use lib.ListN.{length, take, drop, length-append}
+use lib.Seq.{take_at}
 use lib.Dec.{eqb}
 use borrow.Author.Tests.{le-leb, lt-leb, eqb-true, eqb-false}
 use Rattle.table.specs.Lists.{first_no}
@@ -16,107 +16,67 @@ use Rattle.table.proofs.laws.Lists.{decided}
 use Rattle.table.specs.View.{Words, states_of, view, sound_of}
 use Rattle.table.proofs.laws.View.{sorts_of}
 use Rattle.message.specs.Make.{opening, high_of}
-use Rattle.message.specs.inner.Layout.{put_at}
-use Rattle.message.specs.declared.High.{High}
-use Rattle.message.proofs.laws.Layout.{put_length, put_put}
-use Rattle.message.proofs.laws.Making.{put_opening}
 use Rattle.grammar.specs.Reading.{reads}
 use Rattle.grammar.specs.declared.Reading.{Reading}
 use Rattle.grammar.proofs.laws.Reads.{read_sound}
-use Rattle.machine.specs.Machine.{fresh_machine, run, Fewest}
+use Rattle.machine.specs.Machine.{run, Fewest}
 use Rattle.machine.specs.Fit.{Failing}
-use Rattle.machine.specs.Answer.{Answered, answer_of, fit_questions, Failed}
+use Rattle.machine.specs.Answer.{Answered, answer_of, fit_questions, Refused, Failed}
 use Rattle.machine.specs.declared.Fitting.{Fitting}
+use Rattle.machine.specs.declared.Fitting.TheVariants as F
+use Rattle.std.specs.Prelude as Std
 use Rattle.fit.proofs.laws.Answered.{room_most}
 use Rattle.table.specs.Ascii.{ascii, decimal}
 use Rattle.report.specs.Report.{line, fit, refused_line, no_fit, Compared, says_fit, says_no_fit, Reported, Written}
-use Rattle.report.specs.inner.Playing.{rules, lines_from, ListShows, Opened, Composed}
-use Rattle.machine.specs.declared.Fitting.TheVariants as F
+use Rattle.report.specs.inner.Playing.{rules, lines_from, all_lines, ListShows}
 
 -- ---- two sound tables
 
-module _ (d p : Words) (sd : sound_of d ≡ true) (sp : sound_of p ≡ true) (list after : List ℕ) (long : length list ≡ 1024)
-    (r : Fitting) (a : Answered d p list after (answer_of r)) where
-  pub never_refused : {X : Type 0} {q : ℕ} → r ≡ F.Refused q → X
-  unfolding Answered answer_of fit_questions first_no
-  never_refused e =
-      let w = subst (λ (r : Fitting). Answered d p list after (answer_of r)) e a in
-      absurd (w.a_no (sym w.question
+module _ (d p : Words) (sd : sound_of d ≡ true) (sp : sound_of p ≡ true) (list after : List ℕ) (long : length list ≡ 1024) where
+  pub never_refused : {X : Type 0} {q : ℕ} → Refused d p list after q → X
+  unfolding fit_questions first_no
+  never_refused a =
+      absurd (a.a_no (sym a.question
       ∙ rw (sd, sp, le-leb (states_of d * states_of p) (length list) (omega (arith, room_most d p sd sp)))))
 
-  pub answered_fits : {c : ℕ} → r ≡ F.Fits c → Compared (view d) (view p) (fit c)
+  pub answered_fits : {x : Fitting} {c : ℕ} → x ≡ F.Fits c → Answered d p list after (answer_of (Std.Ok x))
+      → Compared (view d) (view p) (fit c)
   unfolding Answered answer_of
-  answered_fits {c} e = let w = subst (λ (r : Fitting). Answered d p list after (answer_of r)) e a in says_fit c w.it_fits w.count
+  answered_fits {c} e a = let w = subst (λ (x : Fitting). Answered d p list after (answer_of (Std.Ok x))) e a in says_fit c w.it_fits w.count
 
-  module _ {K : ℕ} {h : High} (e : r ≡ F.Fails K h) where
+  module _ {K : ℕ} {x : Fitting} {h : Std.Option ℕ} (e : x ≡ F.Fails K h) (a : Answered d p list after (answer_of (Std.Ok x))) where
     failed : Failed d p list after K (high_of h)
     unfolding Answered answer_of
-    failed = subst (λ (r : Fitting). Answered d p list after (answer_of r)) e a
-
-    few : K ≤ 1024
-    few = omega (arith, failed.within, room_most d p sd sp)
+    failed = subst (λ (x : Fitting). Answered d p list after (answer_of (Std.Ok x))) e a
 
     numbers_are : take K after ≡ failed.numbers
     unfolding opening
     numbers_are = ap (take K) failed.list ∙ take_at failed.numbers (drop (length failed.numbers) list) K failed.many
 
-    after_long : length after ≡ 1024
-    unfolding opening
-    after_long =
-        ap length failed.list ∙ length-append failed.numbers (drop (length failed.numbers) list)
-        ∙ omega (arith, long, few, failed.many, length-drop (length failed.numbers) list)
-
-    pub shows : ListShows d p after K (high_of h)
-    shows =
-        record {
-          d_sound = sd;
-          p_sound = sp;
-          few = few;
-          long = after_long;
-          failing = subst (λ (ks : List ℕ). Failing (view d) (view p) ks (high_of h)) (sym numbers_are) failed.failing;
-          fewest = failed.fewest;
-        }
-
-    many : length (take K after) ≡ K
+    pub many : length (take K after) ≡ K
     many = ap length numbers_are ∙ failed.many
 
-    pub answered_fails : Compared (view d) (view p) (no_fit (view d) (view p) (take K after) (high_of h))
-    answered_fails =
-        says_no_fit (take K after) (high_of h) shows.failing
-        (subst₂ (λ (n m : ℕ). length (take K after) ≤ n * m) (sym (sorts_of d)) (sym (sorts_of p)) (omega (arith, many, failed.within)))
-        (subst (λ (n : ℕ). Fewest (rules d) (rules p) n) (sym many) failed.fewest)
+    -- the list holds them all
+    pub room : K ≤ length after
+    unfolding opening
+    room = omega (arith, ap length failed.list, length-append failed.numbers (drop (length failed.numbers) list), failed.many)
+
+    pub shows : ListShows d p (take K after) (high_of h)
+    shows =
+        record {
+          few = omega (arith, many, failed.within, room_most d p sd sp);
+          failing = subst (λ (ks : List ℕ). Failing (view d) (view p) ks (high_of h)) (sym numbers_are) failed.failing;
+          fewest = subst (λ (n : ℕ). Fewest (rules d) (rules p) n) (sym many) failed.fewest;
+        }
 
     -- the first line, and the rest
-    pub no_fit_is :
-        no_fit (view d) (view p) (take K after) (high_of h)
-        ≡ line (ascii "no fit " ++ decimal K) ++ lines_from (view d) (view p) (fresh_machine (rules d) (rules p)) (take K after)
-        (high_of h)
+    pub answered_fails : Compared (view d) (view p) (line (ascii "no fit " ++ decimal K) ++ all_lines (view d) (view p) (take K after) (high_of h))
     unfolding no_fit lines_from run
-    no_fit_is =
-        ap (λ n. line (ascii "no fit " ++ decimal n) ++ lines_from (view d) (view p) (fresh_machine (rules d) (rules p))
-        (take K after) (high_of h)) many
-
--- ---- the text in the buffer
-
-pub opened_one : {d p : Words} {text before after : List ℕ} {x most : ℕ} → Compared (view d) (view p) text → most ≤ length before
-    → (x ≡ length text) × (x ≤ most) × (after ≡ put_at 0 text before) → Opened d p before after x
-opened_one {text} c room w = record { text = text; compared = c; long = w.0; within = omega (arith, w.1); opened = w.2 }
-
-pub opened_two : {d p : Words} {text before between after : List ℕ} {x y : ℕ} (one two : List ℕ) → Compared (view d) (view p) text
-    → text ≡ one ++ two → 13 ≤ length before
-    → (x ≡ length one) × (x ≤ 13) × (between ≡ put_at 0 one before)
-    → (y ≡ x + length two) × (y ≤ length between) × (after ≡ put_at x two between) → Opened d p before after y
-opened_two {text} {before} {between} one two c e room v w =
-    let fits : 0 + length one ≤ length before = omega (arith, v.0, v.1) in
-    record {
-      text = text;
-      compared = c;
-      long = w.0 ∙ omega (arith, v.0, length-append one two) ∙ ap length (sym e);
-      within = omega (arith, w.1, ap length v.2, put_length 0 one before fits);
-      opened =
-          w.2 ∙ ap₂ (λ x y. put_at x two y) (v.0 ∙ sym (omega arith)) v.2 ∙ put_put 0 one before fits two
-          ∙ ap (λ x. put_at 0 x before) (sym e);
-    }
+    answered_fails =
+        subst (λ n. Compared (view d) (view p) (line (ascii "no fit " ++ decimal n) ++ all_lines (view d) (view p) (take K after) (high_of h))) many
+        (says_no_fit (take K after) (high_of h) shows.failing
+        (subst₂ (λ (n m : ℕ). length (take K after) ≤ n * m) (sym (sorts_of d)) (sym (sorts_of p)) (omega (arith, many, failed.within)))
+        shows.fewest)
 
 -- ---- two texts
 
@@ -124,61 +84,35 @@ pub sound_of_is : (s : List ℕ) (r : Reading) → r ≡ reads s → r.question 
 sound_of_is s r e q =
     subst (λ (r : Reading). sound_of r.table ≡ true) (sym e) (read_sound s (subst (λ (r : Reading). r.question ≡ 0) e q))
 
-module _ (protocol device before : List ℕ) {after : List ℕ} {x : ℕ} where
-  pub composed_protocol : (r : Reading) → r ≡ reads protocol → (r.question ≡ 0 → ⊥) → 32 ≤ length before
-      → (x ≡ length (refused_line "protocol" r.question r.at)) × (x ≤ 32)
-      × (after ≡ put_at 0 (refused_line "protocol" r.question r.at) before)
-      → Composed protocol device before after x
-  composed_protocol r e n room w =
+module _ (protocol device : List ℕ) where
+  pub reported_protocol : (r : Reading) → r ≡ reads protocol → (r.question ≡ 0 → ⊥)
+      → Reported protocol device (refused_line "protocol" r.question r.at)
+  reported_protocol r e n =
       let no = subst (λ (r : Reading). r.question ≡ 0 → ⊥) e n in
       record {
-        text = refused_line "protocol" r.question r.at;
-        reported =
-            record {
-              protocol_refused = λ q. ap (λ (r : Reading). refused_line "protocol" r.question r.at) e;
-              device_refused = λ q. absurd (no q);
-              compared = λ q. absurd (no q);
-            };
-        long = w.0;
-        within = omega (arith, w.1);
-        opened = w.2 ∙ put_opening _ before;
+        protocol_refused = λ q. ap (λ (r : Reading). refused_line "protocol" r.question r.at) e;
+        device_refused = λ q. absurd (no q);
+        compared = λ q. absurd (no q);
       }
 
-  pub composed_device : (p : Reading) → p ≡ reads protocol → p.question ≡ 0 → (r : Reading) → r ≡ reads device
-      → (r.question ≡ 0 → ⊥) → 32 ≤ length before
-      → (x ≡ length (refused_line "device" r.question r.at)) × (x ≤ 32)
-      × (after ≡ put_at 0 (refused_line "device" r.question r.at) before)
-      → Composed protocol device before after x
-  composed_device p f y r e n room w =
+  pub reported_device : (p : Reading) → p ≡ reads protocol → p.question ≡ 0 → (r : Reading) → r ≡ reads device
+      → (r.question ≡ 0 → ⊥) → Reported protocol device (refused_line "device" r.question r.at)
+  reported_device p f y r e n =
       let yes = subst (λ (r : Reading). r.question ≡ 0) f y in
       let no = subst (λ (r : Reading). r.question ≡ 0 → ⊥) e n in
       record {
-        text = refused_line "device" r.question r.at;
-        reported =
-            record {
-              protocol_refused = λ q. absurd (q yes);
-              device_refused = λ z q. ap (λ (r : Reading). refused_line "device" r.question r.at) e;
-              compared = λ z q. absurd (no q);
-            };
-        long = w.0;
-        within = omega (arith, w.1);
-        opened = w.2 ∙ put_opening _ before;
+        protocol_refused = λ q. absurd (q yes);
+        device_refused = λ z q. ap (λ (r : Reading). refused_line "device" r.question r.at) e;
+        compared = λ z q. absurd (no q);
       }
 
-  pub composed_compared : (p : Reading) → p ≡ reads protocol → p.question ≡ 0 → (r : Reading) → r ≡ reads device → r.question ≡ 0
-      → Opened r.table p.table before after x → Composed protocol device before after x
-  composed_compared p f y r e z w =
+  pub reported_compared : (p : Reading) → p ≡ reads protocol → p.question ≡ 0 → (r : Reading) → r ≡ reads device → r.question ≡ 0
+      → {text : List ℕ} → Compared (view r.table) (view p.table) text → Reported protocol device text
+  reported_compared p f y r e z {text} w =
       record {
-        text = w.text;
-        reported =
-            record {
-              protocol_refused = λ q. absurd (q (subst (λ (r : Reading). r.question ≡ 0) f y));
-              device_refused = λ _ q. absurd (q (subst (λ (r : Reading). r.question ≡ 0) e z));
-              compared = λ _ q. subst₂ (λ (r p : Reading). Compared (view r.table) (view p.table) w.text) e f w.compared;
-            };
-        long = w.long;
-        within = w.within;
-        opened = w.opened ∙ put_opening w.text before;
+        protocol_refused = λ q. absurd (q (subst (λ (r : Reading). r.question ≡ 0) f y));
+        device_refused = λ _ q. absurd (q (subst (λ (r : Reading). r.question ≡ 0) e z));
+        compared = λ _ q. subst₂ (λ (r p : Reading). Compared (view r.table) (view p.table) text) e f w;
       }
 
 -- ---- no report is empty
@@ -211,35 +145,16 @@ reported_some protocol device text r e =
 
 -- ---- the lent buffer
 
-module _ (protocol device buffer : List ℕ) {zeros after : List ℕ} {x : ℕ} (c : Composed protocol device zeros after x)
-    (room : length zeros ≡ 16384) where
-  most : length c.text ≤ 16384
-  most = omega (arith, c.long, c.within, room)
-
-  -- the report is among what was composed
-  pub composed_room : x ≤ length after
-  unfolding opening
-  composed_room = omega (arith, c.long, ap length c.opened, length-append c.text (drop (length c.text) zeros))
-
-  -- the buffer does not hold it
-  pub written_not : length buffer < x → Written protocol device buffer buffer 0
+module _ (protocol device buffer : List ℕ) {text : List ℕ} (r : Reported protocol device text) (most : length text ≤ 16384) where
+  -- it does not hold the report
+  pub written_not : length buffer < length text → Written protocol device buffer buffer 0
   written_not short =
-      let no = lt-leb (length c.text) (length buffer) (omega (arith, c.long, short)) in
-      record { text = c.text; reported = c.reported; some = reported_some _ _ _ c.reported; most = most; answer = rw no refl; buffer = rw no refl }
+      let no = lt-leb (length text) (length buffer) short in
+      record { text = text; reported = r; some = reported_some _ _ _ r; most = most; answer = rw no refl; buffer = rw no refl }
 
-  -- the buffer holds it
-  pub written_whole : x ≤ length buffer → (front : List ℕ) → front ≡ take x after
-      → Written protocol device buffer (front ++ drop x buffer) x
+  -- it holds the report
+  pub written_whole : length text ≤ length buffer → Written protocol device buffer (text ++ drop (length text) buffer) (length text)
   unfolding opening
-  written_whole held front e =
-      let yes = le-leb (length c.text) (length buffer) (omega (arith, c.long, held)) in
-      let whole : take x after ≡ c.text = ap₂ take c.long c.opened ∙ take-append_seam c.text (drop (length c.text) zeros) in
-      record {
-        text = c.text;
-        reported = c.reported;
-        some = reported_some _ _ _ c.reported;
-        most = most;
-        answer = rw yes c.long;
-        buffer =
-            rw yes (ap₂ (λ (l : List ℕ) (n : ℕ). l ++ drop n buffer) (e ∙ whole) c.long);
-      }
+  written_whole held =
+      let yes = le-leb (length text) (length buffer) held in
+      record { text = text; reported = r; some = reported_some _ _ _ r; most = most; answer = rw yes refl; buffer = rw yes refl }

@@ -1,68 +1,28 @@
--- Pieces put one behind the other, and a text byte by byte; then numbers and labels as they are written.
+-- Numbers and labels as they are written, and how long a move's line is.
 -- Assumes nothing.
-use mathlib.Core.Path.{◌≡◌, refl, sym, ap, ap₂, ◌∙◌}
+use mathlib.Core.Path.{◌≡◌, refl, sym, ap, ◌∙◌}
 use mathlib.Core.Bool.{Bool, true, false, cond}
 use mathlib.Core.List.{List, [], ◌∷◌, ◌++◌}
 use mathlib.Core.Option.{Option, none}
-use Prim.Native.Nat.{ℕ, zero, suc, ◌+◌, ◌*◌, ◌/◌, ◌%◌, ◌^◌, ◌≤◌, ◌<◌, zero-le}
+use Prim.Native.Nat.{ℕ, zero, suc, ◌+◌, ◌/◌, ◌%◌, ◌^◌, ◌≤◌, ◌<◌, zero-le}
 use native.Mathlib.Nat.{pow-suc}
-use native.Mathlib.Numerals.{add-one}
 use native.Mathlib.Omega.{arith}
-use lib.ListN.{length, get_or, take, drop, set, length-append, length-drop}
-use lib.Seq.{length-take-le, take-suc, drop-cons}
+use lib.ListN.{length, take, length-append}
+use lib.Seq.{take_all}
 use lib.Dec.{ltb, eqb}
-use borrow.Author.Tests.{ltb-true, ltb-false, lt-ltb, le-ltb, ne_eqb, eq-eqb}
+use borrow.Author.Tests.{ltb-true, ltb-false, lt-ltb, le-ltb}
+use Rattle.std.specs.Prelude as Std
+use Rattle.std.specs.Prelude.{Some, None, position, not}
+use Rattle.std.specs.Int.{to_be_bytes}
+use mir.Syntax.{w64}
+use Rattle.std.specs.Option.{unwrap_or}
+use Rattle.std.specs.List.{position_or_len}
+use Rattle.message.proofs.laws.Layout.{label_bytes_high_first}
 use Rattle.table.specs.View.{label_of}
-use Rattle.message.specs.inner.Layout.{put_at}
-use Rattle.message.proofs.laws.Layout.{put_length, put_put, put_one}
-use Rattle.report.specs.Report.{line, high_part}
+use Rattle.report.specs.Report.{line, direction, high_part}
+use Rattle.table.specs.declared.Party.{Party}
+use Rattle.table.specs.declared.Party.TheVariants as P
 use Rattle.table.specs.Ascii.{letters, digits, decimal}
-
--- ---- a piece behind a piece
-
-module _ (at i : ℕ) (p b₀ b : List ℕ) (there : i ≡ at + length p) (fits : i ≤ length b₀) (e : b ≡ put_at at p b₀) where
-  pub put_after : (q : List ℕ) → put_at i q b ≡ put_at at (p ++ q) b₀
-  put_after q = ap₂ (λ j x. put_at j q x) there e ∙ put_put at p b₀ (omega arith) q
-
-  pub put_byte : (a : ℕ) → i < length b₀ → set b i a ≡ put_at at (p ++ (a ∷ [])) b₀
-  put_byte a l = put_one b i a (omega (arith, ap length e, put_length at p b₀ (omega arith))) ∙ put_after (a ∷ [])
-
--- p is put into a buffer from a place on, and r is the place after it
-abbrev pub Laid : ℕ → List ℕ → List ℕ → List ℕ → ℕ → Type 0
-Laid at p b₀ b r = (r ≡ at + length p) × (b ≡ put_at at p b₀)
-
-pub laid_on : (at : ℕ) (p q b₀ b₁ b₂ : List ℕ) (i r : ℕ) → i ≤ length b₀ → Laid at p b₀ b₁ i → Laid i q b₁ b₂ r → Laid at (p ++ q) b₀ b₂ r
-laid_on at p q b₀ b₁ b₂ i r fits (e, f) (g, h) = (omega (arith, length-append p q), h ∙ put_after at i p b₀ b₁ e fits f q)
-
--- a line of at most m bytes, of which the text is put before its end
-pub line_laid : (m : ℕ) (text b₀ b₁ b₂ : List ℕ) (i r : ℕ) → i < m → m ≤ length b₀ → Laid 0 text b₀ b₁ i → Laid i (10 ∷ []) b₁ b₂ r
-    → (r ≡ length (line text)) × (r ≤ m) × (b₂ ≡ put_at 0 (line text) b₀)
-unfolding line
-line_laid m text b₀ b₁ b₂ i r l fits p q =
-    let e = laid_on 0 text (10 ∷ []) b₀ b₁ b₂ i r (omega arith) p q in (omega (arith, e.0), omega (arith, q.0), e.1)
-
--- ---- a text byte by byte
-
-module _ (text : List ℕ) (k : ℕ) where
-  -- where the rest of a text begins with a byte
-  module _ (a : ℕ) (rest : List ℕ) (e : drop k text ≡ a ∷ rest) where
-    pub more_there : k < length text
-    more_there = omega (arith, length-drop k text, ap length e)
-
-    pub byte_there : get_or text k 0 ≡ a
-    byte_there = let l = more_there in cc (drop-cons text k 0 l)
-
-    pub rest_there : drop (k + 1) text ≡ rest
-    rest_there = let l = more_there in rw add-one (cc (drop-cons text k 0 l))
-
-  -- k bytes of a text stand in the buffer, and the next is put behind them
-  pub put_next : (at : ℕ) (b₀ b : List ℕ) (a : ℕ) → get_or text k 0 ≡ a → at + length text ≤ length b₀ → k < length text
-      → b ≡ put_at at (take k text) b₀
-      → set b (at + k) a ≡ put_at at (take (k + 1) text) b₀
-  put_next at b₀ b a q fits l e =
-      put_byte at (at + k) (take k text) b₀ b (ap (λ i. at + i) (sym (length-take-le k text (omega arith)))) (omega arith) e a
-      (omega arith)
-      ∙ ap (λ x. put_at at x b₀) (sym (ap (λ i. take i text) (add-one k) ∙ take-suc text k 0 l ∙ ap (λ y. take k text ++ (y ∷ [])) q))
 
 -- ---- numbers
 
@@ -120,12 +80,10 @@ pub decimal_few : (q n : ℕ) → n < 10 ^ suc q → length (decimal n) ≤ suc 
 unfolding decimal
 decimal_few q n l = digits_few 20 q n l
 
--- ---- labels
+pub number_few : (n : ℕ) → n < 65536 → length (decimal n) ≤ 5
+number_few n l = decimal_few 4 n (omega arith)
 
-letters_filled : (l : List ℕ) → letters (l ++ (0 ∷ [])) ≡ letters l
-unfolding letters
-letters_filled [] = refl
-letters_filled (b ∷ r) = ap (λ l. cond (eqb b 0) [] (b ∷ l)) (letters_filled r)
+-- ---- labels
 
 letters_few : (l : List ℕ) → length (letters l) ≤ length l
 unfolding letters
@@ -140,42 +98,51 @@ pub label_few : (w : ℕ) → length (letters (label_of w)) ≤ 8
 unfolding label_of
 label_few w = letters_few (label_of w)
 
--- a word whose first byte is 0x00 has no letter
-pub label_none : (w : ℕ) → w < 72057594037927936 → letters (label_of w) ≡ []
-unfolding letters label_of
-label_none w l = rw (eq-eqb (w / 72057594037927936 % 256) 0 (omega arith))
-
--- the other bytes; and the word of them, filled up with 0x00
-abbrev others : ℕ → List ℕ
-others w =
-    w / 281474976710656 % 256 ∷ w / 1099511627776 % 256 ∷ w / 4294967296 % 256 ∷ w / 16777216 % 256 ∷ w / 65536 % 256 ∷ w / 256 % 256
-    ∷ w % 256
-    ∷ []
-
-abbrev pub next : ℕ → ℕ
-next w = w % 72057594037927936 * 256
-
-label_next : (w : ℕ) → label_of (next w) ≡ others w ++ (0 ∷ [])
-unfolding label_of
-label_next w =
-    ap₂ ◌∷◌ (omega arith)
-    (ap₂ ◌∷◌ (omega arith)
-    (ap₂ ◌∷◌ (omega arith)
-    (ap₂ ◌∷◌ (omega arith) (ap₂ ◌∷◌ (omega arith) (ap₂ ◌∷◌ (omega arith) (ap₂ ◌∷◌ (omega arith) (ap₂ ◌∷◌ (omega arith) refl)))))))
-
-letters_more : (b : ℕ) (r : List ℕ) → 0 < b → letters (b ∷ r) ≡ b ∷ letters r
+-- the letters are what comes before the first 0x00
+letters_first : (l : List ℕ) → take (position_or_len (λ b. eqb b 0) l) l ≡ letters l
 unfolding letters
-letters_more b r l = rw (ne_eqb b 0 (λ e. absurd (omega arith)))
+letters_first [] = refl
+letters_first (b ∷ r) = go (eqb b 0) (position_or_len (λ b. eqb b 0) r) (letters_first r)
+  where
+    go : (t : Bool) (n : ℕ) → take n r ≡ letters r → take (cond (not t) (1 + n) 0) (b ∷ r) ≡ cond t [] (b ∷ letters r)
+    go true n e = refl
+    go false n e = let q : 1 + n ≡ suc n = omega arith in ap (λ n. take n (b ∷ r)) q ∙ ap (λ l. b ∷ l) e
 
-pub label_more : (w : ℕ) → 72057594037927936 ≤ w → w < 18446744073709551616
-    → letters (label_of w) ≡ w / 72057594037927936 ∷ letters (label_of (next w))
-unfolding label_of
-label_more w l m =
-    letters_more (w / 72057594037927936 % 256) (others w) (omega arith)
-    ∙ ap₂ ◌∷◌ (omega arith) (sym (ap letters (label_next w) ∙ letters_filled (others w)))
+letters_found : (l : List ℕ) → length l ≡ 8 → take (unwrap_or (position (λ b. eqb b 0) l) 8) l ≡ letters l
+letters_found l e = go (position_or_len (λ b. eqb b 0) l) (ltb (position_or_len (λ b. eqb b 0) l) (length l)) refl (letters_first l)
+  where
+    go : (n : ℕ) (t : Bool) → ltb n (length l) ≡ t → take n l ≡ letters l → take (unwrap_or (cond t (Some n) None) 8) l ≡ letters l
+    go n true f q = q
+    go n false f q = take_all 8 l (omega (arith, e)) ∙ sym (take_all n l (ltb-false n (length l) f)) ∙ q
 
--- ---- the field that is high
+pub letters_taken : (w n : ℕ) (bytes : List ℕ) (o : Std.Option ℕ) → bytes ≡ to_be_bytes w64 w → o ≡ position (λ b. eqb b 0) bytes
+    → n ≡ unwrap_or o 8 → take n bytes ≡ letters (label_of w)
+letters_taken w n bytes o e f g =
+    ap (λ n. take n bytes) (g ∙ ap (λ o. unwrap_or o 8) f) ∙ letters_found bytes (ap length e) ∙ ap letters (e ∙ label_bytes_high_first w)
+
+-- ---- a move's line
 
 pub high_none : (h : Option ℕ) → h ≡ none → length (high_part h) ≡ 0
 unfolding high_part
 high_none h e = ap (λ h. length (high_part h)) e
+
+pub direction_few : (s : Party) → length (direction s) ≤ 4
+unfolding direction
+direction_few P.Device = omega arith
+direction_few P.Host = omega arith
+
+pub line_low : (side : Party) (w : ℕ) (h : Option ℕ) → h ≡ none
+    → length (line (direction side ++ (letters (label_of w) ++ high_part h))) ≤ 13
+unfolding line
+line_low side w h e =
+    let d = direction side in
+    let l = letters (label_of w) in
+    omega (
+      arith,
+      length-append (d ++ (l ++ high_part h)) (10 ∷ []),
+      length-append d (l ++ high_part h),
+      length-append l (high_part h),
+      high_none h e,
+      direction_few side,
+      label_few w,
+    )

@@ -1,35 +1,30 @@
 -- What the functions that play the moves say. Nothing here need be believed: the contract of `report` cites none of it.
 -- Assumes nothing.
 use Rattle.std.specs.Prelude.{◌≡◌, Bool, true, false, cond, List, ◌++◌, ℕ, ◌+◌, ◌≤◌, ◌<◌, length, take, ltb}
+use Rattle.std.specs.Prelude as Std
 use Rattle.std.proofs.Math.Option.{Option, none, some}
 use Rattle.table.specs.Table.{same_sort, Table, sort, speaker}
-use Rattle.table.specs.View.{Words, states_of, view, sound_of}
+use Rattle.table.specs.View.{Words, states_of, view}
 use Rattle.message.specs.Message.{count_of, well_formed}
-use Rattle.message.specs.Make.{made, branch, opening}
-use Rattle.message.specs.inner.Layout.{put_at}
+use Rattle.message.specs.Make.{made, branch}
 use Rattle.message.specs.Rules.{Rules, table_rules}
 use Rattle.table.specs.declared.Party.{Party}
 use Rattle.machine.specs.Machine.{Machine, Move, Effect, nothing, forward, halt, Standing, running, device_blamed, host_blamed, jammed, effect, fresh_machine, play, Fewest}
 use Rattle.machine.specs.Fit.{spoken, shown, field_named, Failing}
-use Rattle.report.specs.Report.{move_line, move_lines, ending, Compared, Reported}
-use Rattle.report.specs.declared.play.Heard.{Heard}
+use Rattle.report.specs.Report.{move_line, move_lines, ending}
 use Rattle.report.specs.declared.play.Pair.{Pair}
-use Rattle.report.specs.declared.play.Played.{Played}
-use Rattle.report.specs.declared.play.Said.{Said}
 use Rattle.table.specs.declared.Party.TheVariants as P
-use Rattle.report.specs.declared.play.Heard.TheVariants as H
 
 -- ---- one message at one table
 
--- the table is sound, and at that state of it it is the side's turn
+-- at that state of the table it is the side's turn
 pub record HasTurn (t : Words) (i : ℕ) (side : Party) : Type 0 where
-  pub sound : sound_of t ≡ true
   pub inside : i < states_of t
   pub turn : speaker (sort (view t) i) ≡ some side
 
-unfoldable pub heard_of : Heard → Option ℕ
-heard_of (H.On target) = some target
-heard_of H.Not = none
+unfoldable pub heard_of : Std.Option ℕ → Option ℕ
+heard_of (Std.Some target) = some target
+heard_of Std.None = none
 
 -- ---- one message at both
 
@@ -64,23 +59,20 @@ kept i j nothing = (i, j, false)
 kept i j (forward x y) = (x, y, false)
 kept i j (halt s) = (i, j, blames s)
 
--- what is said: a move's message, and its line from a place on
-pub record MoveSaid (v : Move) (side : Party) (h : Option ℕ) (at : ℕ) (message before after : List ℕ) (r : Said) : Type 0 where
+-- what is said: a move's message, n bytes long, and its line
+pub record MoveSaid (v : Move) (h : Option ℕ) (message before after : List ℕ) (n : ℕ) : Type 0 where
   pub full : length message ≡ 285
-  pub short : r.length ≤ 285
-  pub side_is : r.side ≡ side
-  pub message_is : take r.length message ≡ v.bytes
-  pub at_is : r.at ≡ at + length (move_line v h)
-  pub most : r.at ≤ at + 24
-  pub most_low : h ≡ none → r.at ≤ at + 13
-  pub written : after ≡ put_at at (move_line v h) before
+  pub short : n ≤ 285
+  pub message_is : take n message ≡ v.bytes
+  pub written : after ≡ before ++ move_line v h
+  pub most : length after ≤ length before + 24
+  pub most_low : h ≡ none → length after ≤ length before + 13
 
-pub record Plays (d p : Table) (i j : ℕ) (v : Move) (h : Option ℕ) (at : ℕ) (before after : List ℕ) (r : Played) : Type 0 where
-  pub pair_is : pair_of r.pair ≡ kept i j (effect (table_rules d) (table_rules p) i j v)
-  pub at_is : r.at ≡ at + length (move_line v h)
-  pub most : r.at ≤ at + 24
-  pub most_low : h ≡ none → r.at ≤ at + 13
-  pub written : after ≡ put_at at (move_line v h) before
+pub record Plays (d p : Table) (i j : ℕ) (v : Move) (h : Option ℕ) (before after : List ℕ) (r : Pair) : Type 0 where
+  pub pair_is : pair_of r ≡ kept i j (effect (table_rules d) (table_rules p) i j v)
+  pub written : after ≡ before ++ move_line v h
+  pub most : length after ≤ length before + 24
+  pub most_low : h ≡ none → length after ≤ length before + 13
 
 -- the move of branch k at device state i
 abbrev pub move_at : Table → Table → ℕ → ℕ → Option ℕ → Move
@@ -92,8 +84,6 @@ move_of t side k h = record { side = side; bytes = made (branch t k) h }
 
 -- the branch's message is a move
 pub record Speaking (d p : Words) (i k : ℕ) (h : Option ℕ) : Type 0 where
-  pub d_sound : sound_of d ≡ true
-  pub p_sound : sound_of p ≡ true
   pub i_inside : i < states_of d
   pub formed : well_formed (move_at (view d) (view p) i k h).bytes ≡ true
   pub field : field_named h (count_of (move_at (view d) (view p) i k h).bytes) ≡ true
@@ -105,10 +95,10 @@ pub record Ready (d p : Words) (i j k : ℕ) (h : Option ℕ) : Type 0 where
   pub alike : same_sort (sort (view d) i) (sort (view p) j) ≡ true
 
 -- the move is said by the side whose turn it is
-pub record MoveSpoken (d p : Table) (i k : ℕ) (h : Option ℕ) (at : ℕ) (message before after : List ℕ) (r : Said) : Type 0 where
-  pub said : MoveSaid (move_at d p i k h) r.side h at message before after r
-  pub turn : speaker (sort d i) ≡ some r.side
-  pub whose : (move_at d p i k h).side ≡ r.side
+pub record MoveSpoken (d p : Table) (i k : ℕ) (h : Option ℕ) (message before after : List ℕ) (side : Party) (n : ℕ) : Type 0 where
+  pub said : MoveSaid (move_at d p i k h) h message before after n
+  pub turn : speaker (sort d i) ≡ some side
+  pub whose : (move_at d p i k h).side ≡ side
 
 -- ---- all moves
 
@@ -124,37 +114,12 @@ rules t = table_rules (view t)
 unfoldable pub lines_from : Table → Table → Machine ℕ ℕ → List ℕ → Option ℕ → List ℕ
 lines_from d p m ks h = move_lines (shown d p m ks h) h ++ ending (play (table_rules d) (table_rules p) m (shown d p m ks h)).standing
 
--- the first K entries of the list are moves that show a fault
-pub record ListShows (d p : Words) (list : List ℕ) (K : ℕ) (h : Option ℕ) : Type 0 where
-  pub d_sound : sound_of d ≡ true
-  pub p_sound : sound_of p ≡ true
-  pub few : K ≤ 1024
-  pub long : length list ≡ 1024
-  pub failing : Failing (view d) (view p) (take K list) h
-  pub fewest : Fewest (rules d) (rules p) K
+-- and from the fresh machine on
+abbrev pub all_lines : Table → Table → List ℕ → Option ℕ → List ℕ
+all_lines d p ks h = lines_from d p (fresh_machine (table_rules d) (table_rules p)) ks h
 
--- the lines of the list's first K moves, and how they end, stand from a place on
-abbrev pub Ended : Table → Table → List ℕ → ℕ → Option ℕ → ℕ → List ℕ → List ℕ → ℕ → Type 0
-Ended d p list K h at before after r =
-    let lines = lines_from d p (fresh_machine (table_rules d) (table_rules p)) (take K list) h in
-    (r ≡ at + length lines) × (r ≤ length before) × (after ≡ put_at at lines before)
-
--- ---- two tables
-
--- the text of their comparison opens the buffer
-pub record Opened (d p : Words) (before after : List ℕ) (r : ℕ) : Type 0 where
-  pub text : List ℕ
-  pub compared : Compared (view d) (view p) text
-  pub long : r ≡ length text
-  pub within : r ≤ length before
-  pub opened : after ≡ put_at 0 text before
-
--- ---- two texts
-
--- their report opens a buffer that holds it
-pub record Composed (protocol device before after : List ℕ) (r : ℕ) : Type 0 where
-  pub text : List ℕ
-  pub reported : Reported protocol device text
-  pub long : r ≡ length text
-  pub within : r ≤ length before
-  pub opened : after ≡ opening text before
+-- the moves show a fault, and there are few
+pub record ListShows (d p : Words) (ks : List ℕ) (h : Option ℕ) : Type 0 where
+  pub few : length ks ≤ 1024
+  pub failing : Failing (view d) (view p) ks h
+  pub fewest : Fewest (rules d) (rules p) (length ks)
