@@ -1,13 +1,14 @@
 // The counts of a conversation as the lines of a file have them: the setting z, n of each state of the table, k of each branch.
-ghost use Rattle.std.specs.Prelude.{◌+◌, ◌≤◌};
+ghost use Rattle.std.specs.Prelude.{◌≤◌};
 
-use conversation::Counts;
+use crate::line::Line;
+use conversation::{CHOSEN, Counts, SETTING, TAKEN};
 use table::Table;
 
 // Nothing counted, with the setting of the files: 200 hundredths.
 pub fn none() -> Counts {
     let mut c = [0u16; 161];
-    c[conversation::SETTING] = 200;
+    c[SETTING] = 200;
     c
 }
 
@@ -15,24 +16,22 @@ pub fn none() -> Counts {
 pub fn of(t: &Table, numbers: &[u64; 512]) -> Counts {
     let mut c = none();
     let m = states(t);
-    c[conversation::SETTING] = (numbers[2] % 65536) as u16;
-    put(&mut c, conversation::CHOSEN, m, numbers, 3);
-    put(&mut c, conversation::TAKEN, branches(t), numbers, 3 + m);
+    c[SETTING] = (numbers[2] % 65536) as u16;
+    put(&mut c[CHOSEN..CHOSEN + m], &numbers[3..]);
+    put(&mut c[TAKEN..TAKEN + branches(t)], &numbers[3 + m..]);
     c
 }
 
-// Whether n and k are the numbers of a line from a place on, and no more are there.
-pub fn are(t: &Table, c: &Counts, numbers: &[u64; 512], from: usize, to: usize) -> bool {
-    if 256 < from {
-        return false;
-    }
+// Whether n and k are the wanted numbers of a line, and no more are there.
+pub fn are(t: &Table, c: &Counts, line: &Line) -> bool {
+    let (from, to) = (line.given, line.total);
+    let numbers = &line.numbers;
     let m = states(t);
     let n = branches(t);
-    if to != from + m + n {
-        return false;
-    }
-    same(c, conversation::CHOSEN, m, numbers, from)
-        && same(c, conversation::TAKEN, n, numbers, from + m)
+    from <= 256
+        && to == from + m + n
+        && same(&c[CHOSEN..CHOSEN + m], &numbers[from..from + m])
+        && same(&c[TAKEN..TAKEN + n], &numbers[from + m..from + m + n])
 }
 
 fn states(t: &Table) -> usize
@@ -47,30 +46,15 @@ fn branches(t: &Table) -> usize
     (t[table::BRANCHES] % 129) as usize
 }
 
-// So many counts from a place on are the numbers from another on.
-fn put(c: &mut Counts, at: usize, count: usize, numbers: &[u64; 512], from: usize)
-    requires { (at + count ≤ 161) × (from + count ≤ 512) }
-{
-    let mut k: usize = 0;
-    while k < count {
-        c[at + k] = (numbers[from + k] % 65536) as u16;
-        k += 1;
+fn put(counts: &mut [u16], numbers: &[u64]) {
+    for (n, number) in counts.iter_mut().zip(numbers) {
+        *n = (number % 65536) as u16;
     }
 }
 
-fn same(c: &Counts, at: usize, count: usize, numbers: &[u64; 512], from: usize) -> bool
-    requires { (at + count ≤ 161) × (from + count ≤ 512) }
-{
-    let mut k: usize = 0;
-    while k < count {
-        if wide(c[at + k]) != numbers[from + k] {
-            return false;
-        }
-        k += 1;
-    }
-    true
-}
-
-fn wide(x: u16) -> u64 {
-    x as u64
+fn same(counts: &[u16], numbers: &[u64]) -> bool {
+    counts
+        .iter()
+        .zip(numbers)
+        .all(|(n, number)| u64::from(*n) == *number)
 }

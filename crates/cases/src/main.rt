@@ -16,14 +16,11 @@
 #![tactic(auto)]
 
 ghost use Rattle.std.specs.Prelude.{◌≤◌};
-ghost use Rattle.std.specs.Counts.{IsPrefixLen};
 
 use conversation::{Counts, State};
-use line::Line;
-use std::io::Read;
-use std::num::wrapping_add_u64;
+use line::{Command, Line};
+use std::io;
 use std::rt::Files;
-use std::{fs, io};
 use step::Outcome;
 use table::Table;
 
@@ -32,8 +29,9 @@ mod counts;
 mod line;
 mod step;
 
-// How many lines, steps, batches and counts there were, and how many of the last three went wrong.
-#[derive(Drop)]
+// How many lines, steps, batches and counts there were, and how many of the last three went wrong. No count wraps: at most 65,536
+// bytes of a file are read.
+#[derive(Clone, Copy)]
 struct Tally {
     lines: u64,
     steps: u64,
@@ -42,7 +40,35 @@ struct Tally {
     wrong: u64,
 }
 
-// Where a column begins: states, branches, sort, owner, target, fields, label, kind, low, high, share, edition.
+impl Tally {
+    fn new() -> Tally {
+        Tally {
+            lines: 0,
+            steps: 0,
+            batches: 0,
+            counts: 0,
+            wrong: 0,
+        }
+    }
+
+    // A line more.
+    fn count(&mut self, command: Option<Command>, right: bool) {
+        self.lines = self.lines.wrapping_add(1);
+        match command {
+            Some(Command::Step | Command::NextStep) => self.steps = self.steps.wrapping_add(1),
+            Some(Command::Batch | Command::NextBatch) => self.batches = self
+                .batches
+                .wrapping_add(1),
+            Some(Command::Counts) => self.counts = self.counts.wrapping_add(1),
+            _ => {}
+        }
+        if !right {
+            self.wrong = self.wrong.wrapping_add(1);
+        }
+    }
+}
+
+// Where a column begins, by its number in the files: states, branches, sort, owner, target, fields, label, kind, low, high, share, edition.
 fn column(n: u64) -> usize
     ensures { result ≤ 2338 }
 {
@@ -62,244 +88,148 @@ fn column(n: u64) -> usize
     }
 }
 
-// The empty table with the edits. A label is one number in the file, and two words in the table.
-fn build(numbers: &[u64; 512], given: usize) -> Table {
+// The empty table with the edits, each of them column, index and value. A label is one number in the file, and two words in the table.
+fn build(l: &Line) -> Table {
     let mut t = table::empty();
-    let mut at: usize = 0;
-    while at < given {
-        if 509 < at {
-            return t;
+    for edit in l.numbers.chunks_exact(3).take(l.given.div_ceil(3)) {
+        let index = (edit[1] % 512) as usize;
+        let value = edit[2];
+        if let Some(word) = t.get_mut(column(edit[0]) + index) {
+            *word = (value % 4294967296) as u32;
         }
-        let index = (numbers[at + 1] % 512) as usize;
-        let value = numbers[at + 2];
-        let n = numbers[at];
-        at += 3;
-        let place = column(n) + index;
-        if place < 2340 {
-            t[place] = (value % 4294967296) as u32;
-        }
-        if n == 6 {
-            t[table::LABEL_HIGH + index] = (value / 4294967296 % 4294967296) as u32;
+        if edit[0] == 6 {
+            t[table::LABEL_HIGH + index] = (value / 4294967296) as u32;
         }
     }
     t
 }
 
-// Of each number its lowest byte. In a step or a batch only a room is above 0xFF.
-fn bytes_of(numbers: &[u64; 512]) -> [u8; 512] {
-    let mut bytes = [0u8; 512];
-    let mut k: usize = 0;
-    while k < 512 {
-        bytes[k] = (numbers[k] % 256) as u8;
-        k += 1;
-    }
-    bytes
-}
-
 // The bytes from one place up to another; none where there are no such places.
 fn part<'a>(bytes: &'a [u8], from: usize, to: usize) -> &'a [u8] {
-    if to < from {
-        return &bytes[..0];
-    }
-    if bytes.len() < to {
-        return &bytes[..0];
-    }
-    &bytes[from..to]
+    bytes.get(from..to).unwrap_or(&[])
 }
 
 // The step of a line whose message begins at `from`, its side and the room before it.
-fn step_of(
-    l: Line,
-    from: usize,
-    t: &Table,
-    s: State,
-    c: &mut Counts,
-    numbers: &[u64; 512],
-) -> Outcome
+fn step_of(l: &Line, from: usize, t: &Table, s: State, c: &mut Counts) -> Outcome
     requires { (2 ≤ from) × (from ≤ 4) }
 {
-    let bytes = bytes_of(numbers);
+    let bytes = l.bytes();
     let message = part(&bytes, from, l.given);
     let wanted = part(&bytes, l.given, l.total);
-    let side = numbers[from - 2];
-    let room = numbers[from - 1];
+    let side = l.numbers[from - 2];
+    let room = l.numbers[from - 1];
     step::step(t, s, c, side, room, message, wanted)
 }
 
 // The batch of a line whose rooms begin at `from`, the length of the device's bytes and the bytes after them.
-fn batch_of(
-    l: Line,
-    from: usize,
-    t: &Table,
-    s: State,
-    c: &mut Counts,
-    numbers: &[u64; 512],
-) -> Outcome
+fn batch_of(l: &Line, from: usize, t: &Table, s: State, c: &mut Counts) -> Outcome
     requires { from ≤ 2 }
 {
-    let bytes = bytes_of(numbers);
-    let middle = from + 3 + (numbers[from + 2] % 512) as usize;
+    let bytes = l.bytes();
+    let middle = from + 3 + (l.numbers[from + 2] % 512) as usize;
     let device = part(&bytes, from + 3, middle);
     let host = part(&bytes, middle, l.given);
     let wanted = part(&bytes, l.given, l.total);
-    let to_device = numbers[from];
-    let to_host = numbers[from + 1];
+    let to_device = l.numbers[from];
+    let to_host = l.numbers[from + 1];
     batch::batch(t, s, c, to_device, to_host, device, host, wanted)
 }
 
 // A conversation begins.
 fn start(t: &Table, c: &mut Counts, setting: u64) -> Outcome {
     let begun = questions::fresh(t, (setting % 4294967296) as u32);
-    let state = begun.state;
     let counts = begun.counts;
     *c = counts;
-    Outcome { right: true, state }
-}
-
-// What comes of a line that begins at a state of its own.
-fn anew(l: Line, t: &Table, numbers: &[u64; 512]) -> Outcome {
-    let mut c = counts::none();
-    let s = step::state_of(numbers[0], numbers[1]);
-    if l.command == b's' {
-        return step_of(l, 4, t, s, &mut c, numbers);
+    Outcome {
+        right: true,
+        state: begun.state,
     }
-    batch_of(l, 2, t, s, &mut c, numbers)
 }
 
 // What comes of a line after one that ended in the state and the counts. A line with no step, batch or counts is right.
-fn outcome(l: Line, t: &Table, state: State, c: &mut Counts, numbers: &[u64; 512]) -> Outcome {
-    let command = l.command;
+fn outcome(l: &Line, t: &Table, state: State, c: &mut Counts) -> Outcome {
+    let own = step::state_of(l.numbers[0], l.numbers[1]);
+    let Some(command) = command_of(l) else {
+        return Outcome { right: true, state };
+    };
     match command {
-        b'g' => start(t, c, 200),
-        b'f' => start(t, c, numbers[0]),
-        b'i' => {
-            *c = counts::of(t, numbers);
-            let state = step::state_of(numbers[0], numbers[1]);
-            Outcome { right: true, state }
+        Command::Begin => start(t, c, 200),
+        Command::BeginWith => start(t, c, l.numbers[0]),
+        Command::State => {
+            *c = counts::of(t, &l.numbers);
+            Outcome {
+                right: true,
+                state: own,
+            }
         }
-        b'e' => {
-            let right = counts::are(t, c, numbers, l.given, l.total);
+        Command::Counts => {
+            let right = counts::are(t, c, l);
             Outcome { right, state }
         }
-        b's' | b'b' => anew(l, t, numbers),
-        b'u' => step_of(l, 2, t, state, c, numbers),
-        b'c' => batch_of(l, 0, t, state, c, numbers),
-        _ => Outcome { right: true, state },
+        Command::Step => step_of(l, 4, t, own, &mut counts::none()),
+        Command::Batch => batch_of(l, 2, t, own, &mut counts::none()),
+        Command::NextStep => step_of(l, 2, t, state, c),
+        Command::NextBatch => batch_of(l, 0, t, state, c),
+        Command::Table => Outcome { right: true, state },
     }
 }
 
 // A line's command; none where the standing of a batch is no code, for it cannot be a `Standing`.
-fn command_of(command: u8, standing: u64) -> u8 {
-    if command == b'b' && 2 < standing {
-        return 0;
+fn command_of(l: &Line) -> Option<Command> {
+    if l.command == Some(Command::Batch) && l.numbers[1] > 2 {
+        return None;
     }
-    command
-}
-
-// The tally with a line more. No count wraps: at most 65,536 bytes of a file are read.
-fn counted(rt: &impl Print, tally: Tally, command: u8, right: bool) -> io::Result<Tally> {
-    let mut r = tally;
-    r.lines = wrapping_add_u64(r.lines, 1);
-    if command == b's' || command == b'u' {
-        r.steps = wrapping_add_u64(r.steps, 1);
-    }
-    if command == b'b' || command == b'c' {
-        r.batches = wrapping_add_u64(r.batches, 1);
-    }
-    if command == b'e' {
-        r.counts = wrapping_add_u64(r.counts, 1);
-    }
-    if !right {
-        r.wrong = wrapping_add_u64(r.wrong, 1);
-        print_wrong(rt, command, r.lines)?;
-    }
-    Ok(r)
-}
-
-fn print_wrong(rt: &impl Print, command: u8, line: u64) -> io::Result<()> {
-    let letter = command as char;
-    println!(rt; "wrong {letter}: line {line}")
+    l.command
 }
 
 // Every line of a file.
 fn run(rt: &impl Print, s: &[u8]) -> io::Result<Tally> {
-    let mut numbers = [0u64; 512];
     let mut t = table::empty();
     let mut state = step::state_of(0, 0);
     let mut c = counts::none();
-    let mut l = line::begin();
-    let mut tally = Tally {
-        lines: 0,
-        steps: 0,
-        batches: 0,
-        counts: 0,
-        wrong: 0,
-    };
-    let mut at: usize = 0;
-    while at < s.len() {
-        let b = s[at];
-        at += 1;
-        if b != b'\n' {
-            l = line::take(l, b, &mut numbers);
+    let mut l = Line::new();
+    let mut tally = Tally::new();
+    for b in s {
+        if *b != b'\n' {
+            l.take(*b);
             continue;
         }
-        l = line::end(l, &mut numbers);
-        l.command = command_of(l.command, numbers[1]);
-        if l.command == b'j' {
-            t = build(&numbers, l.given);
+        l.end();
+        let command = command_of(&l);
+        if command == Some(Command::Table) {
+            t = build(&l);
         }
-        let r = outcome(l, &t, state, &mut c, &numbers);
+        let r = outcome(&l, &t, state, &mut c);
         state = r.state;
-        tally = counted(rt, tally, l.command, r.right)?;
-        l = line::begin();
+        tally.count(command, r.right);
+        if let Some(command) = command
+            && !r.right
+        {
+            println!(rt; "wrong {command}: line {}", tally.lines)?;
+        }
+        l.clear();
     }
     Ok(tally)
 }
 
-// Reads until the buffer is full, the file ends or a read fails; how many bytes were read, which open the buffer.
-fn read_full(file: &mut impl Read, buf: &mut [u8]) -> usize
-    ensures { IsPrefixLen result buf.new }
-{
-    let mut done: usize = 0;
-    while done < buf.len() {
-        match file.read(&mut buf[done..]) {
-            Ok(0) | Err(_) => break,
-            Ok(n) => done += n,
-        }
-    }
-    done
-}
-
-// The bytes of a file, at most 65,536; none where it can't be opened.
-fn load(rt: &impl Files, name: &str, buf: &mut [u8; 65536]) -> usize
-    ensures { IsPrefixLen result buf.new }
-{
-    let Ok(mut file) = fs::open(rt, name) else {
-        return 0;
-    };
-    read_full(&mut file, buf)
-}
-
-// The file of that name.
-fn run_file(rt: &(impl Files + Print), name: &str) -> io::Result<Tally> {
-    let mut buf = [0u8; 65536];
-    let n = load(rt, name, &mut buf);
-    run(rt, &buf[..n])
-}
-
 // What a file came to.
 fn report(rt: &(impl Files + Print), name: &str) -> io::Result<()> {
-    let tally = run_file(rt, name)?;
-    let steps = tally.steps;
-    let batches = tally.batches;
-    let counts = tally.counts;
-    let wrong = tally.wrong;
+    let mut buf = [0u8; 65536];
+    let n = files::load(rt, name, &mut buf);
+    let tally = run(rt, &buf[..n])?;
+    let Tally {
+        steps,
+        batches,
+        counts,
+        wrong,
+        ..
+    } = tally;
     println!(rt; "{name}: {steps} steps, {batches} batches, {counts} counts, {wrong} wrong")
 }
 
 fn main(rt: HostRuntime) -> io::Result<()> {
-    report(&rt, "monitor")?;
-    report(&rt, "batches")?;
-    report(&rt, "counts")?;
-    report(&rt, "editions")
+    for name in ["monitor", "batches", "counts", "editions"] {
+        report(&rt, name)?;
+    }
+    Ok(())
 }

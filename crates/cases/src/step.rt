@@ -6,7 +6,7 @@ ghost use Rattle.conversation.specs.Counts.{counted_step};
 use conversation::{Counts, Reason, Standing, State, Stepped, Verdict};
 use table::{Party, Table};
 
-// Whether a step goes as it should, and the state that it leads to.
+// Whether a step goes as it should, and the state that it leads to, which is there in either case.
 #[derive(Drop)]
 pub struct Outcome {
     pub right: bool,
@@ -41,56 +41,28 @@ pub fn step(
     wanted: &[u8],
 ) -> Outcome {
     let mut out = [0xEEu8; 512];
-    let n = (room % 512) as usize;
-    step_into(t, s, c, party_of(side), message, &mut out[0..n], wanted)
-}
-
-fn step_into(
-    t: &Table,
-    s: State,
-    c: &mut Counts,
-    side: Party,
-    message: &[u8],
-    out: &mut [u8],
-    wanted: &[u8],
-) -> Outcome {
-    let r = advanced(t, s, c, side, message, out);
-    let state = r.state;
-    let right = is_wanted(r, out, wanted);
-    Outcome { right, state }
+    let out = &mut out[..(room % 512) as usize];
+    let r = advanced(t, s, c, party_of(side), message, out);
+    Outcome {
+        right: is_wanted(r, out, wanted),
+        state: r.state,
+    }
 }
 
 // Wanted are the verdict, the state and the output.
 fn is_wanted(r: Stepped, out: &[u8], wanted: &[u8]) -> bool {
-    if wanted.len() < 6 {
-        return false;
-    }
-    let verdict = r.verdict;
     let state = r.state;
-    let standing = state.standing;
-    let v = verdict_numbers(verdict);
-    let s = [state.position, standing_number(standing)];
-    same(&v, &wanted[0..4]) && same(&s, &wanted[4..6]) && same(out, &wanted[6..])
-}
-
-pub fn same(a: &[u8], b: &[u8]) -> bool {
-    if a.len() != b.len() {
-        return false;
-    }
-    let mut k: usize = 0;
-    while k < a.len() {
-        if a[k] != b[k] {
-            return false;
-        }
-        k += 1;
-    }
-    true
+    let s = [state.position, state.standing as u8];
+    6 <= wanted.len()
+        && &wanted[..4] == verdict_numbers(r.verdict).as_slice()
+        && &wanted[4..6] == s.as_slice()
+        && &wanted[6..] == out
 }
 
 pub fn verdict_numbers(v: Verdict) -> [u8; 4] {
     match v {
-        Verdict::Refused(q) => [0, q, 0, 0],
-        Verdict::Blamed(p, why) => blame_numbers(party_number(p), why),
+        Verdict::Refused(q) => [0, u8::from(q), 0, 0],
+        Verdict::Blamed(p, why) => blame_numbers(p as u8, why),
         Verdict::Forwarded => [2, 0, 0, 0],
     }
 }
@@ -104,25 +76,10 @@ fn blame_numbers(party: u8, why: Reason) -> [u8; 4] {
     }
 }
 
-fn party_number(p: Party) -> u8 {
-    match p {
-        Party::Device => 0,
-        Party::Host => 1,
-    }
-}
-
 fn party_of(n: u64) -> Party {
     match n {
         0 => Party::Device,
         _ => Party::Host,
-    }
-}
-
-pub fn standing_number(s: Standing) -> u8 {
-    match s {
-        Standing::Running => 0,
-        Standing::DeviceBlamed => 1,
-        Standing::HostBlamed => 2,
     }
 }
 

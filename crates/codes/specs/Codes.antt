@@ -7,10 +7,10 @@ use Rattle.table.specs.declared.Party.TheVariants.{Device, Host}
 use Rattle.conversation.specs.declared.Standing.{Standing}
 use Rattle.conversation.specs.declared.Standing.TheVariants.{Running, DeviceBlamed, HostBlamed}
 use Rattle.conversation.specs.declared.State as M
-use Rattle.conversation.specs.declared.Started as S
+use Rattle.conversation.specs.Counts as S
 use Rattle.conversation.specs.Step.{Told, refused, blamed, forwarded}
 use Rattle.conversation.specs.Due as D
-use Rattle.message.specs.declared.Head as H
+use Rattle.message.specs.Message as H
 use Rattle.machine.specs.Answer as F
 use Rattle.conversation.specs.Warning as W
 use Rattle.codes.specs.declared.messages.Head.{Head}

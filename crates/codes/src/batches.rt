@@ -1,12 +1,15 @@
 // A batch: what is passed and the last answer, as codes, and the state's two bytes.
+#![tactic(auto, unfolding(conversation::specs::Batch::last_of, crate::specs::Calls::stand_for, crate::specs::Calls::bytes_for, crate::specs::inner::Parts::passed_codes))]
+
 ghost use Rattle.std.specs.Prelude.{◌≡◌};
 ghost use Rattle.conversation.specs.Batch.{last_of};
 ghost use Rattle.codes.specs.Codes.{last_codes};
 ghost use Rattle.codes.specs.Calls.{stand_for, bytes_for};
+ghost use Rattle.codes.specs.inner.Parts.{passed_codes};
 
 use super::steps;
 use super::steps::Verdict;
-use conversation::batch::Last;
+use conversation::batch::Passed;
 
 // Bytes used of what waits on each side, bytes written on each output, and the last answer. Its outcome is 3 where none was due.
 #[repr(C)]
@@ -20,38 +23,51 @@ pub struct Batch {
     pub reserved: [u8; 3],
 }
 
+impl From<Passed> for Batch {
+    ghost from_gives = { λ passed codes. codes ≡ passed_codes passed };
+
+    fn from(passed: Passed) -> Batch {
+        let Passed { device, host, last } = passed;
+        let last = Verdict::from(last);
+        Batch {
+            used_device: device.used,
+            used_host: host.used,
+            written_to_device: host.written,
+            written_to_host: device.written,
+            last,
+            reserved: [0; 3],
+        }
+    }
+}
+
+impl From<Option<conversation::Verdict>> for Verdict {
+    ghost from_gives = { λ last codes. codes ≡ last_codes (last_of last) };
+
+    fn from(last: Option<conversation::Verdict>) -> Verdict {
+        match last {
+            Some(verdict) => Verdict::from(verdict),
+            None => Verdict {
+                outcome: 3,
+                question: 0,
+                party: 0,
+                reason: 0,
+                field: 0,
+            },
+        }
+    }
+}
+
 // Two bytes that stand for the state already are left as they were.
 pub fn renew(state: &mut [u8; 2], s: conversation::State)
     ensures { state.new ≡ bytes_for s state.old }
 {
-    if stand_for(state[0], state[1], s) {
-        return;
+    if !stand_for(state[0], state[1], s) {
+        steps::put(state, s);
     }
-    steps::put(state, s);
 }
 
 fn stand_for(position: u8, standing: u8, s: conversation::State) -> bool
     ensures { result ≡ stand_for position standing s }
 {
-    if position != s.position {
-        return false;
-    }
-    let before = steps::standing_of(standing);
-    let after = s.standing;
-    steps::standing_code(before) == steps::standing_code(after)
-}
-
-pub fn last_codes(last: Last) -> Verdict
-    ensures { result ≡ last_codes (last_of last) }
-{
-    match last {
-        Last::NoneDue => Verdict {
-            outcome: 3,
-            question: 0,
-            party: 0,
-            reason: 0,
-            field: 0,
-        },
-        Last::Answer(v) => steps::verdict_codes(v),
-    }
+    steps::state_of(position, standing) == s
 }

@@ -1,11 +1,13 @@
 // The fit check's answer, as codes.
+#![tactic(auto, unfolding(message::specs::Make::high_of, machine::specs::Answer::answer_of))]
+
 ghost use Rattle.std.specs.Prelude.{◌≡◌};
 ghost use Rattle.message.specs.Make.{high_of};
 ghost use Rattle.machine.specs.Answer.{answer_of};
 ghost use Rattle.codes.specs.Codes.{high_code, fit_codes};
 
 use machine::Fitting;
-use message::High;
+use table::Question;
 
 // Outcome: 0 fits (count: pairs met), 1 fails (count: moves shown; high: the field that is high in the last, or 255), 2 refused
 // (question).
@@ -18,36 +20,35 @@ pub struct Fit {
     pub high: u32,
 }
 
-pub fn fit_codes(fitting: Fitting) -> Fit
-    ensures { result ≡ fit_codes (answer_of fitting) }
-{
-    match fitting {
-        Fitting::Fits(count) => Fit {
-            outcome: 0,
-            question: 0,
-            count: count as u32,
-            high: 255,
-        },
-        Fitting::Fails(count, field) => Fit {
-            outcome: 1,
-            question: 0,
-            count: count as u32,
-            high: high_code(field),
-        },
-        Fitting::Refused(question) => Fit {
-            outcome: 2,
-            question: question as u32,
-            count: 0,
-            high: 255,
-        },
+impl From<Result<Fitting, Question>> for Fit {
+    ghost from_gives = { λ answer codes. codes ≡ fit_codes (answer_of answer) };
+
+    fn from(answer: Result<Fitting, Question>) -> Fit {
+        match answer {
+            Ok(Fitting::Fits { pairs }) => Fit {
+                outcome: 0,
+                question: 0,
+                count: u32::from(pairs),
+                high: 255,
+            },
+            Ok(Fitting::Fails { moves, high }) => Fit {
+                outcome: 1,
+                question: 0,
+                count: u32::from(moves),
+                high: high_code(high),
+            },
+            Err(question) => Fit {
+                outcome: 2,
+                question: u32::from(question),
+                count: 0,
+                high: 255,
+            },
+        }
     }
 }
 
-fn high_code(field: High) -> u32
+fn high_code(field: Option<u8>) -> u32
     ensures { result ≡ high_code (high_of field) }
 {
-    match field {
-        High::Nothing => 255,
-        High::Field(f) => f as u32,
-    }
+    field.map_or(255, u32::from)
 }

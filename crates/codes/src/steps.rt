@@ -1,14 +1,17 @@
 // The state, whose turn it is, the due part and the verdict of a step, as codes.
-ghost use Rattle.std.specs.Prelude.{◌≡◌, ◌≤◌};
-ghost use Rattle.std.proofs.Math.Option.{some};
+#![tactic(auto, unfolding(conversation::specs::Step::told, conversation::specs::Step::reason, conversation::specs::Step::outside, conversation::specs::Due::turn_answer, conversation::specs::Counts::started, conversation::specs::Counts::question_of, crate::specs::Calls::bytes_after))]
+
+ghost use Rattle.std.specs.Prelude.{◌≡◌, MatchOption};
+ghost use Rattle.std.proofs.Math.Option.{some, none};
 ghost use Rattle.conversation.specs.declared.Verdict.TheVariants.{Blamed};
 ghost use Rattle.conversation.specs.Step.{told};
 ghost use Rattle.conversation.specs.Due.{turn_answer};
-ghost use Rattle.codes.specs.Codes.{code_side, party_code, turn_codes, standing_code, standing_of, state_of, state_bytes, verdict_codes};
+ghost use Rattle.conversation.specs.Counts.{started};
+ghost use Rattle.codes.specs.Codes.{code_side, party_code, turn_codes, standing_code, standing_of, state_of, state_bytes, verdict_codes, started_codes};
 ghost use Rattle.codes.specs.Calls.{bytes_after};
 
 use conversation::{Counts, Reason, Standing, Stepped};
-use table::Party;
+use table::{Party, Question};
 
 // A conversation's state. Standing: 0 running, 1 device blamed, 2 host blamed. Counts: the setting, n of each state, k of each branch.
 #[repr(C)]
@@ -54,35 +57,36 @@ pub struct Due {
     pub length: u32,
 }
 
-pub fn party_of(code: u32) -> Party
-    ensures { code ≤ 1 → code_side code ≡ some result }
+// The side with a code, if there is one. Codes are this crate's, so what they stand for gets no `From` elsewhere.
+pub fn side_of(code: u32) -> Option<Party>
+    ensures { MatchOption result (code_side code ≡ none) (λ side. code_side code ≡ some side) }
 {
-    if code == 0 {
-        return Party::Device;
+    match code {
+        0 => Some(Party::Device),
+        1 => Some(Party::Host),
+        _ => None,
     }
-    Party::Host
+}
+
+pub fn party_code(party: Party) -> u8
+    ensures { result ≡ party_code party }
+{
+    party as u8
 }
 
 // A refusal leaves the two bytes as they were.
 pub fn keep(state: &mut [u8; 2], r: Stepped)
     ensures { state.new ≡ bytes_after (told r.verdict) r.state state.old }
 {
-    let verdict = r.verdict;
-    let next = r.state;
-    match verdict {
-        conversation::Verdict::Refused(_) => {}
-        conversation::Verdict::Blamed(_, _) => put(state, next),
-        conversation::Verdict::Forwarded => put(state, next),
+    if !matches!(r.verdict, conversation::Verdict::Refused(_)) {
+        put(state, r.state);
     }
 }
 
 pub fn put(state: &mut [u8; 2], s: conversation::State)
     ensures { state.new ≡ state_bytes s }
 {
-    let standing = s.standing;
-    let position = s.position;
-    let code = standing_code(standing);
-    *state = [position, code];
+    *state = [s.position, standing_code(s.standing)];
 }
 
 pub fn state_of(position: u8, standing: u8) -> conversation::State
@@ -107,78 +111,84 @@ pub fn standing_of(code: u8) -> Standing
 pub fn standing_code(standing: Standing) -> u8
     ensures { result ≡ standing_code standing }
 {
-    match standing {
-        Standing::Running => 0,
-        Standing::DeviceBlamed => 1,
-        Standing::HostBlamed => 2,
+    standing as u8
+}
+
+impl From<conversation::Started> for Started {
+    ghost from_gives = { λ begun codes. codes ≡ started_codes (started begun) };
+
+    fn from(begun: conversation::Started) -> Started {
+        let conversation::Started {
+            refused,
+            state,
+            counts,
+        } = begun;
+        let state = State {
+            position: state.position,
+            standing: standing_code(state.standing),
+            counts,
+        };
+        Started {
+            question: refused.map_or(0, u32::from),
+            state,
+        }
     }
 }
 
-pub fn party_code(party: Party) -> u8
-    ensures { result ≡ party_code party }
-{
-    match party {
-        Party::Device => 0,
-        Party::Host => 1,
+impl From<Result<Party, Question>> for Turn {
+    ghost from_gives = { λ turn codes. codes ≡ turn_codes (turn_answer turn) };
+
+    fn from(turn: Result<Party, Question>) -> Turn {
+        match turn {
+            Ok(side) => Turn {
+                question: 0,
+                side: u32::from(party_code(side)),
+            },
+            Err(question) => Turn {
+                question: u32::from(question),
+                side: 0,
+            },
+        }
     }
 }
 
-pub fn turn_codes(t: conversation::Turn) -> Turn
-    ensures { result ≡ turn_codes (turn_answer t) }
-{
-    match t {
-        conversation::Turn::Refused(question) => Turn {
-            question: question as u32,
-            side: 0,
-        },
-        conversation::Turn::Of(side) => Turn {
-            question: 0,
-            side: party_code(side) as u32,
-        },
-    }
-}
+impl From<conversation::Verdict> for Verdict {
+    ghost from_gives = { λ verdict codes. codes ≡ verdict_codes (told verdict) };
 
-pub fn verdict_codes(verdict: conversation::Verdict) -> Verdict
-    ensures { result ≡ verdict_codes (told verdict) }
-{
-    match verdict {
-        conversation::Verdict::Forwarded => Verdict {
-            outcome: 0,
-            question: 0,
-            party: 0,
-            reason: 0,
-            field: 0,
-        },
-        conversation::Verdict::Refused(question) => Verdict {
-            outcome: 1,
-            question,
-            party: 0,
-            reason: 0,
-            field: 0,
-        },
-        conversation::Verdict::Blamed(party, reason) => blame_codes(party, reason),
+    fn from(verdict: conversation::Verdict) -> Verdict {
+        match verdict {
+            conversation::Verdict::Forwarded => Verdict {
+                outcome: 0,
+                question: 0,
+                party: 0,
+                reason: 0,
+                field: 0,
+            },
+            conversation::Verdict::Refused(question) => Verdict {
+                outcome: 1,
+                question: u8::from(question),
+                party: 0,
+                reason: 0,
+                field: 0,
+            },
+            conversation::Verdict::Blamed(party, reason) => blame_codes(party, reason),
+        }
     }
 }
 
 fn blame_codes(party: Party, reason: Reason) -> Verdict
     ensures { result ≡ verdict_codes (told (Blamed party reason)) }
 {
-    let code = party_code(party);
-    match reason {
-        Reason::NoLabel => blame(code, 1, 0),
-        Reason::OtherKinds => blame(code, 2, 0),
-        Reason::OutOfRange(field) => blame(code, 3, field),
-        Reason::Early => blame(code, 4, 0),
-    }
-}
-
-fn blame(party: u8, reason: u8, field: u8) -> Verdict
-    ensures { result ≡ record { outcome = 2; question = 0; party = party; reason = reason; field = field } }
-{
+    let (reason, field) = match reason {
+        Reason::NoLabel => (1, 0),
+        Reason::OtherKinds => (2, 0),
+        Reason::OutOfRange(field) => (3, field),
+        Reason::Early => (4, 0),
+    };
     Verdict {
         outcome: 2,
         question: 0,
-        party,
+        party: party_code(party),
         reason,
         field,
     }

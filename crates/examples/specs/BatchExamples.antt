@@ -1,12 +1,12 @@
 -- Request 2's batch: due messages in turn until none is due, a step refuses or a blame falls.
 -- Assumes nothing.
-use Rattle.std.specs.Prelude.{◌≡◌, List, [], ◌∷◌, ◌++◌, ℕ, replicate}
+use Rattle.std.specs.Prelude.{◌≡◌, List, [], ◌∷◌, ◌++◌, ℕ, replicate, None, Some}
 use Rattle.std.proofs.Math.Option.{Option, none, some}
 use Rattle.table.specs.declared.Party.TheVariants.{Device, Host}
+use Rattle.table.specs.declared.refusal.Question.TheVariants.{OutputTooShort}
 use Rattle.conversation.specs.declared.State.{State}
 use Rattle.conversation.specs.declared.Standing.TheVariants.{Running, DeviceBlamed, HostBlamed}
 use Rattle.conversation.specs.declared.Verdict.TheVariants.{Refused}
-use Rattle.conversation.specs.declared.batch.Last.TheVariants.{NoneDue, Answer}
 use Rattle.conversation.specs.Step.{Told, refused, blamed, forwarded, fresh}
 use Rattle.conversation.specs.Batch.{lent, Lane, Batch, batching, last_of, batched}
 use Rattle.conversation.specs.Counts.{Counts}
@@ -82,11 +82,11 @@ pub record BatchesAsked : Type 0 where
   pub nine_of_position : batching P1 (at_position 3 HostBlamed) (P_counts 442 0 0 0 0 0) (lent (ask 7) ok (replicate 9 8) (replicate 20 9))
       ≡ came_to (at_position 3 HostBlamed) (P_counts 442 0 0 0 0 0) (a_lane 0 0 (replicate 20 9)) (a_lane 0 0 (replicate 9 8))
       (some (refused 9))
-  pub answers : (last_of NoneDue ≡ none) × (last_of (Answer (Refused 16)) ≡ some (refused 16))
+  pub answers : (last_of None ≡ none) × (last_of (Some (Refused OutputTooShort)) ≡ some (refused 16))
   pub numbers : batched
       (record {
         state = at_position 1 Running;
-        passed = record { device = record { used = 1; written = 2 }; host = record { used = 3; written = 4 }; last = NoneDue };
+        passed = record { device = record { used = 1; written = 2 }; host = record { used = 3; written = 4 }; last = None };
       })
       (7 ∷ []) (5 ∷ []) (6 ∷ [])
       ≡ came_to (at_position 1 Running) (7 ∷ []) (a_lane 1 2 (6 ∷ [])) (a_lane 3 4 (5 ∷ [])) none

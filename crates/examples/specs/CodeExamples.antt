@@ -1,10 +1,9 @@
 -- The codes that cross to C and Rust, as include/sojimu.h names them, and what the calls over codes do.
 -- Assumes nothing.
-use Rattle.std.specs.Prelude.{◌≡◌, true, false, [], ◌∷◌, ◌++◌, replicate}
+use Rattle.std.specs.Prelude.{◌≡◌, true, false, [], ◌∷◌, ◌++◌, replicate, None, Some, Ok, Err}
 use Rattle.std.proofs.Math.Option.{none, some}
 use Rattle.table.specs.declared.Party.TheVariants.{Device, Host}
-use Rattle.message.specs.declared.High.TheVariants as H
-use Rattle.message.specs.declared.Made.TheVariants as M
+use Rattle.table.specs.declared.refusal.Question.TheVariants as Q
 use Rattle.message.specs.Make.{high_of, made_numbers}
 use Rattle.conversation.specs.declared.Standing.TheVariants.{Running, DeviceBlamed, HostBlamed}
 use Rattle.conversation.specs.Step.{refused, blamed, forwarded}
@@ -62,10 +61,10 @@ pub record CodesTold : Type 0 where
       × (due_codes (D.of_side Host) (ask 7) ok ≡ record { side = 1; length = 9 })
       × (due_codes (D.refused 10) (ask 7) ok ≡ record { side = 0; length = 0 })
   -- of making: the question, or the length; the field that is named
-  pub made : (made_numbers (M.Refused 18) ≡ (18, 0))
-      × (made_numbers (M.Length 14) ≡ (0, 14))
-      × (high_of H.Nothing ≡ none)
-      × (high_of (H.Field 2) ≡ some 2)
+  pub made : (made_numbers (Err Q.NoBranch) ≡ (18, 0))
+      × (made_numbers (Ok 14) ≡ (0, 14))
+      × (high_of None ≡ none)
+      × (high_of (Some 2) ≡ some 2)
 
 -- over the state's two bytes: what a step answers, the bytes and counts after it, and the output
 pub record StepsInCodes : Type 0 where

@@ -1,11 +1,10 @@
 -- Request 4's counts and warnings: a conversation is started, forwarding counts, a branch warns.
 -- Assumes nothing.
-use Rattle.std.specs.Prelude.{◌≡◌, true, false, [], ◌∷◌, replicate, set}
+use Rattle.std.specs.Prelude.{◌≡◌, true, false, [], ◌∷◌, replicate, set, None, Some, Ok, Err}
 use Rattle.std.proofs.Math.Option.{none, some}
 use Rattle.table.specs.declared.Party.TheVariants.{Device, Host}
+use Rattle.table.specs.declared.refusal.Question.TheVariants.{NoBranch}
 use Rattle.conversation.specs.declared.Standing.TheVariants.{Running, DeviceBlamed, HostBlamed}
-use Rattle.conversation.specs.declared.warning.Estimate.TheVariants.{NoneYet, Thousandths}
-use Rattle.conversation.specs.declared.warning.Warning.TheVariants as Warnings
 use Rattle.conversation.specs.Step.{refused, blamed, forwarded, fresh}
 use Rattle.conversation.specs.Due.{of_side}
 use Rattle.conversation.specs.Due as D
@@ -105,5 +104,6 @@ pub record WarningsTold : Type 0 where
   pub last_branch : warning P1 fresh (P_counts 442 4 0 3 0 1) 2 ≡ W.tells false (some Device) (some 250)
   -- 9 of the counts, and of the position, ahead of 18
   pub nine : (warning P1 fresh (P_counts 0 0 0 0 0 0) 3 ≡ W.refused 9) × (warning P1 (at_position 3 Running) (P_counts 1 0 0 0 0 0) 3 ≡ W.refused 9)
-  pub answers : (notice_of (Warnings.Refused 18) ≡ W.refused 18) × (notice_of (Warnings.Tells true Host NoneYet) ≡ W.tells true (some Host) none)
-      × (notice_of (Warnings.Tells false Device (Thousandths 333)) ≡ W.tells false (some Device) (some 333))
+  pub answers : (notice_of (Err NoBranch) ≡ W.refused 18)
+      × (notice_of (Ok (record { warns = true; sender = Host; estimate = None })) ≡ W.tells true (some Host) none)
+      × (notice_of (Ok (record { warns = false; sender = Device; estimate = Some 333 })) ≡ W.tells false (some Device) (some 333))

@@ -1,12 +1,12 @@
 -- Document 01's "Device and monitor together" and "Fit check": moves played, right pairs, what the twelve's two fit checks rest on.
 -- Assumes nothing.
-use Rattle.std.specs.Prelude.{◌≡◌, true, false, ◌&&◌, ◌||◌, List, [], ◌∷◌, ℕ, ltb, eqb, set}
+use Rattle.std.specs.Prelude.{◌≡◌, true, false, ◌&&◌, ◌||◌, List, [], ◌∷◌, ℕ, ltb, eqb, set, None, Some, Ok, Err}
 use Rattle.std.proofs.Math.Option.{none, some}
 use Rattle.table.specs.Lists.{first_no}
 use Rattle.table.specs.Table as T
 use Rattle.table.specs.View.{view}
 use Rattle.table.specs.declared.Party.TheVariants.{Device, Host}
-use Rattle.message.specs.declared.High.TheVariants as H
+use Rattle.table.specs.declared.refusal.Question.TheVariants as Q
 use Rattle.message.specs.Rules.{Rules, table_rules, under}
 use Rattle.machine.specs.declared.Fitting.TheVariants as Fittings
 use Rattle.machine.specs.Machine.{Machine, Move, moves, running, device_blamed, host_blamed, jammed, run, bad, all_forwarded, fresh_machine}
@@ -217,7 +217,7 @@ pub record FitChecked : Type 0 where
       × (last_count [] ≡ 0)
   pub named : (field_named none 0 ≡ true) × (field_named (some 0) 1 ≡ true) × (field_named (some 1) 1 ≡ false)
   -- the program's answers in document 01's numbers
-  pub answers : (answer_of (Fittings.Refused 17) ≡ refused 17)
-      × (answer_of (Fittings.Fits 3) ≡ fits 3)
-      × (answer_of (Fittings.Fails 2 H.Nothing) ≡ fails 2 none)
-      × (answer_of (Fittings.Fails 2 (H.Field 1)) ≡ fails 2 (some 1))
+  pub answers : (answer_of (Err Q.ListTooShort) ≡ refused 17)
+      × (answer_of (Ok (Fittings.Fits 3)) ≡ fits 3)
+      × (answer_of (Ok (Fittings.Fails 2 None)) ≡ fails 2 none)
+      × (answer_of (Ok (Fittings.Fails 2 (Some 1))) ≡ fails 2 (some 1))

@@ -1,10 +1,11 @@
 -- Document 01's "One step of the monitor": judgements, the questions of a step in their order, whose turn it is and the due part; and request 7's
 -- edition 2. Assumes nothing.
-use Rattle.std.specs.Prelude.{◌≡◌, true, false, List, [], ◌∷◌, ◌++◌, map, ℕ, replicate}
+use Rattle.std.specs.Prelude.{◌≡◌, true, false, List, [], ◌∷◌, ◌++◌, map, ℕ, replicate, Ok, Err}
 use Rattle.std.proofs.Math.Option.{none, some}
 use Rattle.table.specs.Table as T
 use Rattle.table.specs.declared.Party.{Party}
 use Rattle.table.specs.declared.Party.TheVariants.{Device, Host}
+use Rattle.table.specs.declared.refusal.Question.TheVariants as Q
 use Rattle.message.specs.Message.{Value, Message, read}
 use Rattle.message.specs.Judge.{judge, allows, selected, allowed, forbidden}
 use Rattle.message.specs.Rules.{Said, table_rules, allowed_list, completed_list, listens}
@@ -13,7 +14,6 @@ use Rattle.conversation.specs.declared.Standing.{Standing}
 use Rattle.conversation.specs.declared.Standing.TheVariants.{Running, DeviceBlamed, HostBlamed}
 use Rattle.conversation.specs.declared.Reason.TheVariants as Why
 use Rattle.conversation.specs.declared.Verdict.TheVariants as Verdicts
-use Rattle.conversation.specs.declared.Turn.TheVariants as Turns
 use Rattle.conversation.specs.Step.{refused, blamed, forwarded, fresh, stepping, told}
 use Rattle.conversation.specs.Due.{of_side, awaited, turn_answer, first_length}
 use Rattle.conversation.specs.Due as D
@@ -66,7 +66,7 @@ pub record JudgedMessages : Type 0 where
   pub reasons : (told (Verdicts.Blamed Device Why.NoLabel) ≡ blamed Device 1 none) × (told (Verdicts.Blamed Host Why.OtherKinds) ≡ blamed Host 2 none)
       × (told (Verdicts.Blamed Device (Why.OutOfRange 1)) ≡ blamed Device 3 (some 1))
       × (told (Verdicts.Blamed Host Why.Early) ≡ blamed Host 4 none)
-      × (told (Verdicts.Refused 12) ≡ refused 12)
+      × (told (Verdicts.Refused Q.OutOfTurn) ≡ refused 12)
       × (told Verdicts.Forwarded ≡ forwarded)
 
 -- ---- one step
@@ -121,7 +121,7 @@ pub record DueParts : Type 0 where
   pub turns : (awaited P1 fresh ≡ of_side Device) × (awaited P1 (at_position 1 Running) ≡ of_side Host)
   pub no_turn : (awaited P1 (at_position 2 Running) ≡ D.refused 11) × (awaited P1 (at_position 2 HostBlamed) ≡ D.refused 10)
       × (awaited P1 (at_position 3 HostBlamed) ≡ D.refused 9)
-  pub answers : (turn_answer (Turns.Refused 11) ≡ D.refused 11) × (turn_answer (Turns.Of Host) ≡ of_side Host)
+  pub answers : (turn_answer (Err Q.AtEnd) ≡ D.refused 11) × (turn_answer (Ok Host) ≡ of_side Host)
   -- all there, with something behind it or not; not all there; 13; 14
   pub first : (first_length (ask 101 ++ (7 ∷ [])) ≡ 14) × (first_length (ask 101) ≡ 14)
   pub a_part : (first_length (65 ∷ 115 ∷ 107 ∷ 0 ∷ 0 ∷ 0 ∷ 0 ∷ 0 ∷ 1 ∷ 0 ∷ 0 ∷ 0 ∷ 0 ∷ []) ≡ 0)

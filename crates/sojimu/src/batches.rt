@@ -2,12 +2,10 @@
 ghost use Rattle.std.specs.Prelude.{◌≡◌};
 ghost use Rattle.conversation.specs.Batch.{lent};
 ghost use Rattle.codes.specs.Calls.{batching_codes};
-ghost use Rattle.sojimu.specs.inner.Parts.{passed_codes};
 
 use super::steps;
 use codes::batches::Batch;
 use conversation::Counts;
-use conversation::batch::Passed;
 use table::Table;
 
 // A batch. The state's two bytes, position and standing, and its counts are lent and advanced.
@@ -28,23 +26,5 @@ pub extern "C" fn sojimu_raw_batch(
     let s = steps::state_in(state);
     let r = monitor::batch::batch(table, s, counts, device, host, to_device, to_host);
     codes::batches::renew(state, r.state);
-    let passed = r.passed;
-    tell(passed)
-}
-
-// What was passed, and the last answer.
-fn tell(passed: Passed) -> Batch
-    ensures { result ≡ passed_codes passed }
-{
-    let from_device = passed.device;
-    let from_host = passed.host;
-    let last = passed.last;
-    Batch {
-        used_device: from_device.used,
-        used_host: from_host.used,
-        written_to_device: from_host.written,
-        written_to_host: from_device.written,
-        last: codes::batches::last_codes(last),
-        reserved: [0, 0, 0],
-    }
+    Batch::from(r.passed)
 }

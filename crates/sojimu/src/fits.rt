@@ -9,6 +9,5 @@ use table::Table;
 pub extern "C" fn sojimu_raw_fit(device: &Table, protocol: &Table, list: &mut [u16]) -> Fit
     ensures { Checked device.now protocol.now list.old list.new result }
 {
-    let r = fit::check(device, protocol, list);
-    codes::fits::fit_codes(r)
+    Fit::from(fit::check(device, protocol, list))
 }

@@ -14,11 +14,13 @@ mod texts;
 mod warnings;
 
 // The header's number (SOJIMU_VERSION): raised whenever a struct or a call changes.
+const VERSION: u32 = 6;
+
 #[unsafe(no_mangle)]
 pub extern "C" fn sojimu_version() -> u32
     ensures { result ≡ 6 }
 {
-    6
+    VERSION
 }
 
 // The same number, by a name that carries it: header and wrapper refer to it, so that what is written for another version does not link.
@@ -26,5 +28,5 @@ pub extern "C" fn sojimu_version() -> u32
 pub extern "C" fn sojimu_abi_6() -> u32
     ensures { result ≡ 6 }
 {
-    6
+    VERSION
 }

@@ -1,4 +1,6 @@
 // Messages: their questions, their label, and the message made from a branch.
+#![tactic(auto, using(crate::proofs::laws::Announced::front_few))]
+
 ghost use Rattle.std.specs.Prelude.{◌≡◌};
 ghost use Rattle.message.specs.Message.{has_label, front_of, broken, refusal};
 ghost use Rattle.message.specs.Make.{making};
@@ -12,10 +14,16 @@ use table::Table;
 pub extern "C" fn sojimu_raw_front(bytes: &[u8]) -> Head
     ensures { result ≡ head_codes (front_of bytes.now) }
 {
-    let head = message::front(bytes);
-    Head {
-        question: head.question as u32,
-        length: head.length as u32,
+    // by hand: that the length fits is known of this front alone
+    match message::front(bytes) {
+        Ok(length) => Head {
+            question: 0,
+            length: length as u32,
+        },
+        Err(question) => Head {
+            question: u32::from(question),
+            length: 0,
+        },
     }
 }
 
@@ -32,7 +40,7 @@ pub extern "C" fn sojimu_raw_broken(bytes: &[u8]) -> bool
 pub extern "C" fn sojimu_raw_refusal(bytes: &[u8]) -> u32
     ensures { result ≡ refusal bytes.now }
 {
-    message::refusal(bytes) as u32
+    message::refusal(bytes).err().map_or(0, u32::from)
 }
 
 // Whether the bytes begin with a table's label.
@@ -55,5 +63,5 @@ pub extern "C" fn sojimu_raw_make(table: &Table, branch: u32, named: u32, out: &
         codes::messages::high_of(named),
         out,
     );
-    codes::messages::made_codes(r)
+    Made::from(r)
 }

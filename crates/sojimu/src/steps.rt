@@ -1,39 +1,24 @@
 // The monitor: one step over a lent state, whose turn it is, and the due part.
+#![tactic(auto, using(crate::proofs::laws::Announced::first_few), unfolding(conversation::specs::Step::told, conversation::specs::Due::turn_answer, codes::specs::Calls::due_codes, crate::specs::inner::Parts::unspoken))]
+
 ghost use Rattle.std.specs.Prelude.{◌≡◌};
 ghost use Rattle.conversation.specs.Step.{told};
 ghost use Rattle.conversation.specs.Due.{first_length};
 ghost use Rattle.conversation.specs.Counts.{starting, counted_turn};
-ghost use Rattle.codes.specs.Codes.{turn_codes, standing_code, state_in, started_codes};
+ghost use Rattle.codes.specs.Codes.{party_code, turn_codes, standing_code, state_in, started_codes};
 ghost use Rattle.codes.specs.Calls.{step_codes, due_codes};
 ghost use Rattle.sojimu.specs.inner.Parts.{unspoken};
 
-use codes::steps::{Due, Started, State, Turn, Verdict};
+use codes::steps::{Due, Started, Turn, Verdict};
 use conversation::Counts;
-use table::{Party, Table};
+use table::{Party, Question, Table};
 
 // A conversation over a table, with the setting in hundredths. Asks 9, then 21.
 #[unsafe(no_mangle)]
 pub extern "C" fn sojimu_fresh(table: &Table, setting: u32) -> Started
     ensures { result ≡ started_codes (starting table.now setting) }
 {
-    let r = questions::fresh(table, setting);
-    let s = r.state;
-    let counts = r.counts;
-    Started {
-        question: r.question as u32,
-        state: state_codes(s, counts),
-    }
-}
-
-fn state_codes(s: conversation::State, counts: Counts) -> State
-    ensures { result ≡ record { position = s.position; standing = standing_code s.standing; counts = counts } }
-{
-    let standing = s.standing;
-    State {
-        position: s.position,
-        standing: codes::steps::standing_code(standing),
-        counts,
-    }
+    Started::from(questions::fresh(table, setting))
 }
 
 // The state that two lent bytes stand for.
@@ -56,26 +41,22 @@ pub extern "C" fn sojimu_raw_step(
     ensures { (result, state.new, counts.new, out.new)
         ≡ step_codes table.now state.old counts.old side message.now out.old }
 {
-    let s = codes::steps::state_of(state[0], state[1]);
-    if 1 < side {
-        let refusal = unspoken(table, s, counts);
-        return codes::steps::verdict_codes(refusal);
-    }
-    let speaker = codes::steps::party_of(side);
+    let s = state_in(state);
+    let Some(speaker) = codes::steps::side_of(side) else {
+        return Verdict::from(unspoken(table, s, counts));
+    };
     let r = monitor::step(table, s, counts, speaker, message, out);
     codes::steps::keep(state, r);
-    let verdict = r.verdict;
-    codes::steps::verdict_codes(verdict)
+    Verdict::from(r.verdict)
 }
 
 // The refusal of what no side says: by 9, 10 or 11, else by 12. It is never judged, and nobody is blamed for it.
 fn unspoken(table: &Table, s: conversation::State, counts: &Counts) -> conversation::Verdict
     ensures { told result ≡ unspoken (counted_turn table.now s counts.now) }
 {
-    let turn = questions::whose_turn(table, s, counts);
-    match turn {
-        conversation::Turn::Refused(question) => conversation::Verdict::Refused(question),
-        conversation::Turn::Of(_) => conversation::Verdict::Refused(12),
+    match questions::whose_turn(table, s, counts) {
+        Err(question) => conversation::Verdict::Refused(question),
+        Ok(_) => conversation::Verdict::Refused(Question::OutOfTurn),
     }
 }
 
@@ -84,9 +65,7 @@ fn unspoken(table: &Table, s: conversation::State, counts: &Counts) -> conversat
 pub extern "C" fn sojimu_raw_turn(table: &Table, state: &[u8; 2], counts: &Counts) -> Turn
     ensures { result ≡ turn_codes (counted_turn table.now (state_in state.now) counts.now) }
 {
-    let s = state_in(state);
-    let turn = questions::whose_turn(table, s, counts);
-    codes::steps::turn_codes(turn)
+    Turn::from(questions::whose_turn(table, state_in(state), counts))
 }
 
 // The due part, as a side and a length.
@@ -101,24 +80,19 @@ pub extern "C" fn sojimu_raw_due(
     ensures { result ≡ due_codes (counted_turn table.now (state_in state.now) counts.now)
         device.now host.now }
 {
-    let s = state_in(state);
-    let turn = questions::whose_turn(table, s, counts);
-    match turn {
-        conversation::Turn::Refused(_) => Due { side: 0, length: 0 },
-        conversation::Turn::Of(side) => match side {
-            Party::Device => first_of(0, device),
-            Party::Host => first_of(1, host),
-        },
+    match questions::whose_turn(table, state_in(state), counts) {
+        Err(_) => Due { side: 0, length: 0 },
+        Ok(Party::Device) => first_of(Party::Device, device),
+        Ok(Party::Host) => first_of(Party::Host, host),
     }
 }
 
 // A side's first message.
-fn first_of(side: u32, bytes: &[u8]) -> Due
-    ensures { result ≡ record { side = side; length = first_length bytes.now } }
+fn first_of(side: Party, bytes: &[u8]) -> Due
+    ensures { result ≡ record { side = party_code side; length = first_length bytes.now } }
 {
-    let length = questions::first_length(bytes);
     Due {
-        side,
-        length: length as u32,
+        side: u32::from(codes::steps::party_code(side)),
+        length: questions::first_length(bytes) as u32,
     }
 }

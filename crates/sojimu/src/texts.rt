@@ -13,7 +13,7 @@ pub extern "C" fn sojimu_raw_read(text: &[u8]) -> Reading
     text::read(text)
 }
 
-// The report's length; 0 where the buffer does not hold it, and then the buffer is unchanged.
+// The report's length; 0 where the buffer does not hold it, and then the buffer is unchanged: C takes no `Option`.
 #[unsafe(no_mangle)]
 pub extern "C" fn sojimu_raw_report(protocol: &[u8], device: &[u8], out: &mut [u8]) -> usize
     ensures { Written protocol.now device.now out.old out.new result }

@@ -10,10 +10,9 @@ use Rattle.table.specs.declared.Party.{Party}
 use Rattle.message.specs.Message.{read}
 use Rattle.message.specs.Judge.{selected}
 use Rattle.conversation.specs.declared.Standing.{Standing}
-use Rattle.conversation.specs.declared.Started.{Started}
 use Rattle.conversation.specs.Step.{refused, blamed, forwarded, Outcome, fresh, stepping}
 use Rattle.conversation.specs.Conversation.{event}
-use Rattle.conversation.specs.Counts.{legal_setting, fresh_counts, raised, raised_by, raised_at, counted, counted_step}
+use Rattle.conversation.specs.Counts.{Started, legal_setting, fresh_counts, raised, raised_by, raised_at, counted, counted_step}
 use Rattle.conversation.proofs.laws.Counts.{starts, fresh_sound, counted_then}
 use Rattle.examples.specs.Twelve.{gives, first_step, P_counts}
 

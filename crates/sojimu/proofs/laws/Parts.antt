@@ -6,7 +6,7 @@ use mathlib.Core.Logic.{⊎_elim}
 use mathlib.Core.Bool.{Bool, true, false, cond}
 use mathlib.Core.List.{List, [], ◌∷◌, ◌++◌}
 use mathlib.Core.Option.{none, some}
-use Prim.Native.Nat.{ℕ, zero, suc, ◌<◌}
+use Prim.Native.Nat.{ℕ, zero, suc}
 use native.Mathlib.Omega.{arith}
 use Rattle.table.specs.View.{Words, sort_at}
 use Rattle.table.specs.declared.Party.{Party}
@@ -25,12 +25,8 @@ use Rattle.conversation.specs.declared.batch.Batched.{Batched}
 use Rattle.conversation.specs.Batch.{Both, Left, Batch, batching, batched}
 use Rattle.codes.specs.declared.batches.Batch as C
 use Rattle.codes.specs.Calls.{stepping_as, bytes_after, crossing, step_codes, bytes_for, batch_codes, batch_crossing, batching_codes}
-use Rattle.sojimu.specs.inner.Parts.{unspoken, passed_codes}
-
-pub no_side : (code : ℕ) → 1 < code → code_side code ≡ none
-no_side zero h = absurd (omega arith)
-no_side (suc zero) h = absurd (omega arith)
-no_side (suc (suc n)) h = refl
+use Rattle.codes.specs.inner.Parts.{passed_codes}
+use Rattle.sojimu.specs.inner.Parts.{unspoken}
 
 -- 9, 10 and 11, then a no to 12
 abbrev out_of_turn : Words → State → ℕ
