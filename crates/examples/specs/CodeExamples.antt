@@ -1,13 +1,16 @@
 -- The codes that cross to C and Rust, as include/sojimu.h names them, and what the calls over codes do.
 -- Assumes nothing.
-use Rattle.std.specs.Prelude.{◌≡◌, true, false, [], ◌∷◌, ◌++◌, replicate, None, Some, Ok, Err}
+use Rattle.std.specs.Prelude.{◌≡◌, true, false, [], ◌∷◌, ◌++◌, ℕ, replicate, None, Some, Ok, Err}
 use Rattle.std.proofs.Math.Option.{none, some}
 use Rattle.table.specs.declared.Party.TheVariants.{Device, Host}
 use Rattle.table.specs.declared.refusal.Question.TheVariants as Q
+use Rattle.table.specs.Question.{number, refused_by}
+use Rattle.message.specs.Message.{head_of}
 use Rattle.message.specs.Make.{high_of, made_numbers}
 use Rattle.conversation.specs.declared.Standing.TheVariants.{Running, DeviceBlamed, HostBlamed}
 use Rattle.conversation.specs.Step.{refused, blamed, forwarded}
 use Rattle.conversation.specs.Batch.{lent}
+use Rattle.conversation.specs.Counts.{started}
 use Rattle.conversation.specs.Due as D
 use Rattle.conversation.specs.Warning as W
 use Rattle.machine.specs.Answer as F
@@ -65,6 +68,26 @@ pub record CodesTold : Type 0 where
       × (made_numbers (Ok 14) ≡ (0, 14))
       × (high_of None ≡ none)
       × (high_of (Some 2) ≡ some 2)
+
+-- each refusal by the number that documents 01 and 02 give its question, and 0 where there is none
+pub record QuestionsNumbered : Type 0 where
+  -- of a text: its length, its tokens, the grammar, bound, guarded, ranges, labels, limits
+  pub text : (number Q.TextTooLong ≡ 1) × (number Q.BadToken ≡ 2) × (number Q.Misplaced ≡ 3) × (number Q.Unbound ≡ 4)
+      × (number Q.Unguarded ≡ 5) × (number Q.BadRange ≡ 6) × (number Q.LabelTwice ≡ 7) × (number Q.TooMany ≡ 8)
+  -- of a table and a position, the standing, an end, the turn
+  pub state : (number Q.Unsound ≡ 9) × (number Q.NotRunning ≡ 10) × (number Q.AtEnd ≡ 11) × (number Q.OutOfTurn ≡ 12)
+  -- of a message: front, fields, length; the output, the list, the branch
+  pub message : (number Q.BadFront ≡ 13) × (number Q.BadField ≡ 14) × (number Q.OtherLength ≡ 15)
+  pub room : (number Q.OutputTooShort ≡ 16) × (number Q.ListTooShort ≡ 17) × (number Q.NoBranch ≡ 18)
+  -- of the requests: a share, shares, the setting, UTF-8, the edition
+  pub requests : (number Q.BadShare ≡ 19) × (number Q.BadShares ≡ 20) × (number Q.BadSetting ≡ 21) × (number Q.NotUtf8 ≡ 22)
+      × (number Q.BadEdition ≡ 23)
+  pub answers : (refused_by {T = ℕ} (Err Q.OutOfTurn) ≡ 12) × (refused_by {T = ℕ} (Ok 7) ≡ 0)
+  pub heads : (head_of (Err Q.BadField) ≡ record { question = 14; length = 0 }) × (head_of (Ok 14) ≡ record { question = 0; length = 14 })
+  pub begun : (started (record { refused = Some Q.BadSetting; state = at_position 5 HostBlamed; counts = 7 ∷ [] })
+      ≡ record { question = 21; state = at_position 5 HostBlamed; counts = 7 ∷ [] })
+      × (started (record { refused = None; state = at_position 5 HostBlamed; counts = 7 ∷ [] })
+      ≡ record { question = 0; state = at_position 5 HostBlamed; counts = 7 ∷ [] })
 
 -- over the state's two bytes: what a step answers, the bytes and counts after it, and the output
 pub record StepsInCodes : Type 0 where

@@ -1,6 +1,6 @@
 -- The examples, computed. Printed by `tests/pins --proofs CodeExamples`. Assumes nothing.
 use mathlib.Core.Path.{refl}
-use Rattle.examples.specs.CodeExamples.{CodesTold, StepsInCodes, BatchesInCodes}
+use Rattle.examples.specs.CodeExamples.{CodesTold, QuestionsNumbered, StepsInCodes, BatchesInCodes}
 use Rattle.codes.specs.Calls as CodesCalls
 use Rattle.conversation.specs.Batch as ConversationBatch
 use Rattle.conversation.specs.Counts as ConversationCounts
@@ -35,6 +35,20 @@ codes_told =
       fit_checks = (refl, refl, refl, refl);
       dues = (refl, refl, refl);
       made = (refl, refl, refl, refl);
+    }
+
+pub questions_numbered : QuestionsNumbered
+unfolding ConversationCounts.started
+questions_numbered =
+    record {
+      text = (refl, refl, refl, refl, refl, refl, refl, refl);
+      state = (refl, refl, refl, refl);
+      message = (refl, refl, refl);
+      room = (refl, refl, refl);
+      requests = (refl, refl, refl, refl, refl);
+      answers = (refl, refl);
+      heads = (refl, refl);
+      begun = (refl, refl);
     }
 
 pub steps_in_codes : StepsInCodes
