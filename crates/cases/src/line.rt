@@ -163,6 +163,10 @@ impl Line {
 
     // Of each number its lowest byte. In a step or a batch only a room is above 0xFF.
     pub fn bytes(&self) -> [u8; 512] {
-        self.numbers.map(|n| (n % 256) as u8)
+        let mut bytes = [0; 512];
+        for (byte, number) in bytes.iter_mut().zip(&self.numbers) {
+            *byte = (*number % 256) as u8;
+        }
+        bytes
     }
 }

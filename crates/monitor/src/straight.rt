@@ -20,7 +20,8 @@ pub fn takes(
     requires { sound_of t.now ≡ true }
     ensures { IfSome result (λ b. GoesStraight t.now position sort side message.now room b) }
 {
-    if !ask::has_turn(side, sort) {
+    // the room first: a message that is refused by 16 is not looked through for it
+    if !ask::has_turn(side, sort) || room < message.len() {
         return None;
     }
     let first = look_ahead(t, position, message, room)?;

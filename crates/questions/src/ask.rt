@@ -89,7 +89,7 @@ pub fn has_turn(side: Party, sort: u32) -> bool
 
 // Who sends at a choice of this sort.
 #[tactic(auto, using(crate::proofs::laws::Sender::device_sends, crate::proofs::laws::Sender::host_sends))]
-pub fn sender(sort: u32) -> Party
+pub(crate) fn sender(sort: u32) -> Party
     requires { sort ≡ 0 → ⊥ }
     ensures { some result ≡ speaker (sort_of sort) }
 {

@@ -72,7 +72,11 @@ fn say(
     ensures { MoveSaid (move_of (view t.entry.words.now) side k (high_of named)) (high_of named) message.new report.old report.new result }
 {
     let b = usize::from(k);
-    report.move_line(side, table::label(t.words, b), named);
+    let label = table::label_word(
+        t.words[table::LABEL_HIGH + b],
+        t.words[table::LABEL_LOW + b],
+    );
+    report.move_line(side, label, named);
     let n = message::make(t.words, k, named, message).unwrap(); // the branch is there, and 285 bytes hold its message
     usize::from(n)
 }

@@ -40,7 +40,7 @@ pub fn is_alone(t: &Table, i: usize) -> bool
     let owner = t[OWNER + i];
     let label = super::label(t, i);
     for k in 0..i {
-        if t[OWNER + k] == owner && super::label(t, k) == label {
+        if (t[OWNER + k] == owner) & (super::label(t, k) == label) {
             return false;
         }
     }

@@ -1,4 +1,4 @@
-// The branches' part of question 9: one pass over labels where they are few, a pass for each matter where they are many.
+// The branches' part of question 9: one pass where they are few, a pass for each matter where they are many.
 ghost use Rattle.std.specs.Prelude.{◌≡◌, ◌+◌, ◌<◌, ◌≤◌};
 ghost use Rattle.table.specs.inner.Scans.{all, legal_at, in_place, PassedLabels, PassedPlaces, PassedBranches};
 
@@ -17,10 +17,30 @@ pub fn owners(t: &Table, n: usize, m: u32) -> Option<Passed>
     requires { (n ≤ 128) × (m ≤ 32) }
     ensures { PassedBranches t.now n m result }
 {
+    if n <= 8 {
+        return few(t, n, m);
+    }
     if !labels(t, n) {
         return None;
     }
     places(t, n, m)
+}
+
+// All that is asked of a branch, then the next: for few branches, to begin a pass costs more than the pass.
+fn few(t: &Table, n: usize, m: u32) -> Option<Passed>
+    requires { (n ≤ 128) × (m ≤ 32) }
+    ensures { PassedBranches t.now n m result }
+{
+    let mut set = 0;
+    let mut shares = 0;
+    for k in 0..n {
+        if !in_place(t, k, m) || !super::label_legal(super::label(t, k)) || !apart::is_alone(t, k) {
+            return None;
+        }
+        set = bits::with(set, t[OWNER + k]);
+        shares |= t[SHARE + k];
+    }
+    Some(Passed { set, shares })
 }
 
 // Whether the first n labels are legal and differ within a state.
@@ -28,24 +48,7 @@ fn labels(t: &Table, n: usize) -> bool
     requires { n ≤ 128 }
     ensures { PassedLabels t.now n result }
 {
-    // for few branches, to begin a pass costs more than the pass
-    if n <= 8 {
-        return few(t, n);
-    }
     letters::all_legal(t, n) && apart::all_apart(t, n)
-}
-
-// The same of few.
-fn few(t: &Table, n: usize) -> bool
-    requires { n ≤ 128 }
-    ensures { PassedLabels t.now n result }
-{
-    for k in 0..n {
-        if !super::label_legal(super::label(t, k)) || !apart::is_alone(t, k) {
-            return false;
-        }
-    }
-    true
 }
 
 // Owners, targets and fields of the first n branches, the set of the owners, and the shares.

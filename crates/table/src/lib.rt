@@ -95,8 +95,8 @@ pub fn sound_at(t: &Table, position: u32) -> bool
     sound(t) && position < t[STATES]
 }
 
-// The label of branch k.
-pub fn label(t: &Table, k: usize) -> u64
+// The label of branch k. Other crates join its two words: no function that they can call asks for anything.
+fn label(t: &Table, k: usize) -> u64
     requires { k < 128 }
     ensures { (result ≡ word_at t.now k) × Word result }
 {

@@ -14,8 +14,9 @@ use table::Question;
 // The question that got a no, and the place of the token it was asked at.
 #[derive(Clone, Copy)]
 pub struct Refusal {
-    pub question: Question,
+    // first, so that no answer shares eight bytes with the question's one
     pub at: usize,
+    pub question: Question,
 }
 
 impl Refusal {

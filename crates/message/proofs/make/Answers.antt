@@ -54,6 +54,6 @@ returns c =
       result_value = ap (λ n. (0, 9 + 5 * n + text)) c.from-2.ensures ∙ ap (λ m. m.numbers) (sym e);
       out_after =
           c.write.ensures
-          ∙ ap (λ w. put_at 0 (laid w (count_at t k) (λ f. kind_at t (4 * k + f)) (number_chosen (high_of a.named) t (4 * k)) text) a.out.now) c.label.ensures.0
+          ∙ ap (λ w. put_at 0 (laid w (count_at t k) (λ f. kind_at t (4 * k + f)) (number_chosen (high_of a.named) t (4 * k)) text) a.out.now) c.label_word-label.ensures
           ∙ ap (λ m. m.buffer) (sym e);
     }

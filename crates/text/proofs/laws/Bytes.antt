@@ -1,5 +1,5 @@
 -- The library's tests of a byte and of two slices are those that the scanner is defined by. Assumes nothing.
-use Rattle.std.proofs.Common.{◌≡◌, ℕ, Bool, cond, eqb, true, false, ◌&&◌, ◌||◌, List, [], ◌∷◌, refl, sym, ap, nat_le, ◌+◌, ◌-◌, ◌<◌, ◌≤◌, ◌++◌, min, length, length-take, take, drop, replicate, get_or, arith, ltb, leb, ◌∙◌}
+use Rattle.std.proofs.Common.{◌≡◌, ℕ, zero, suc, Bool, cond, eqb, true, false, ◌&&◌, ◌||◌, List, [], ◌∷◌, refl, sym, ap, nat_le, ◌+◌, ◌-◌, ◌<◌, ◌≤◌, ◌++◌, min, length, length-take, take, drop, replicate, get_or, arith, ltb, leb, ◌∙◌}
 use Rattle.std.proofs.lemmas.List.{get_or-take, get_or-drop, get_or-replicate, get_or_past, get_or-append_right, get_or_append_left}
 use Rattle.std.specs.Char.{is_ascii_alphanumeric}
 use Rattle.std.specs.List.{list_any}
@@ -71,6 +71,22 @@ filled_word w n e =
         ∙ get_or-drop n (replicate 8 0) (i - n) 0
         ∙ get_or-replicate 8 (n + (i - n)) 0 0 (omega arith)
         ∙ sym (get_or_past w i 0 (omega arith))
+
+-- the first eight bytes of a name, 0 past its end
+pub read_word : (w : List ℕ)
+    → from_be_bytes w64 (get_or w 0 0 ∷ get_or w 1 0 ∷ get_or w 2 0 ∷ get_or w 3 0 ∷ get_or w 4 0 ∷ get_or w 5 0 ∷ get_or w 6 0 ∷ get_or w 7 0 ∷ []) ≡ word_of w
+read_word w = be_word (get_or w 0 0 ∷ get_or w 1 0 ∷ get_or w 2 0 ∷ get_or w 3 0 ∷ get_or w 4 0 ∷ get_or w 5 0 ∷ get_or w 6 0 ∷ get_or w 7 0 ∷ []) w at
+  where
+    at : (i : ℕ) → i < 8 → get_or (get_or w 0 0 ∷ get_or w 1 0 ∷ get_or w 2 0 ∷ get_or w 3 0 ∷ get_or w 4 0 ∷ get_or w 5 0 ∷ get_or w 6 0 ∷ get_or w 7 0 ∷ []) i 0 ≡ get_or w i 0
+    at zero h = refl
+    at (suc zero) h = refl
+    at (suc (suc zero)) h = refl
+    at (suc (suc (suc zero))) h = refl
+    at (suc (suc (suc (suc zero)))) h = refl
+    at (suc (suc (suc (suc (suc zero))))) h = refl
+    at (suc (suc (suc (suc (suc (suc zero)))))) h = refl
+    at (suc (suc (suc (suc (suc (suc (suc zero))))))) h = refl
+    at (suc (suc (suc (suc (suc (suc (suc (suc i)))))))) h = absurd (omega arith)
 
 pub is_one_of : (ks : List ℕ) (b : ℕ) → list_any (λ k. eqb k b) ks ≡ one_of ks b
 is_one_of [] b = refl

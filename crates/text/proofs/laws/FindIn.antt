@@ -4,15 +4,15 @@ use mathlib.Core.Bool.{Bool, true, false, cond, ◌&&◌, ◌||◌}
 use Rattle.std.specs.List.{list_any, range_with_len}
 use mathlib.Core.List.{List}
 use mathlib.Core.Option.{none, some}
-use Prim.Native.Nat.{ℕ, zero, suc, ◌+◌, ◌-◌, ◌*◌, ◌≤◌, ◌<◌, zero-le}
+use Prim.Native.Nat.{ℕ, zero, suc, ◌+◌, ◌-◌, ◌*◌, ◌/◌, ◌%◌, ◌≤◌, ◌<◌, zero-le}
 use native.Mathlib.Nat.{not-suc-le-zero, add-zero}
 use native.Mathlib.Numerals.{add-one}
 use native.Mathlib.Omega.{arith}
 use lib.Dec.{leb, ltb, eqb}
-use borrow.Author.Tests.{eq-eqb, ne_eqb, le-leb, lt-leb, leb-true, leb-false, ltb-true, ltb-false}
+use borrow.Author.Tests.{eq-eqb, eqb-true, ne_eqb, le-leb, lt-leb, leb-true, leb-false, ltb-true, ltb-false}
 use Rattle.table.specs.Lists.{upto}
 use Rattle.table.specs.Table.{of_choice, shares_right}
-use Rattle.table.specs.View.{owner_at, word_at, share_at, branch_at}
+use Rattle.table.specs.View.{joined_label, owner_at, word_at, share_at, branch_at}
 use Rattle.table.specs.Sound.{added}
 use Rattle.table.specs.inner.Scans.{weight_of, weights, right_sum}
 use Rattle.table.proofs.laws.Lists.{refuted, never}
@@ -57,6 +57,26 @@ any_labels t o l zero = refl
 any_labels t o l (suc n) =
     let f : ℕ → Bool = λ k. eqb (owner_at t k) o && eqb (word_at t k) l in
     any_last f 0 n ∙ ap₂ ◌||◌ (ap f (omega arith)) (any_labels t o l n)
+
+-- a label by its two words: it is one exactly when both are
+pub halves : (high low w : ℕ) (o : Bool) → low < 4294967296
+    → (eqb high (w / 4294967296) && o && eqb low (w % 4294967296)) ≡ (o && eqb (joined_label high low) w)
+halves high low w o l = go (eqb high (w / 4294967296)) refl (eqb low (w % 4294967296)) refl (eqb (joined_label high low) w) refl o
+  where
+    go : (a : Bool) → eqb high (w / 4294967296) ≡ a → (b : Bool) → eqb low (w % 4294967296) ≡ b → (c : Bool) → eqb (joined_label high low) w ≡ c
+        → (o : Bool) → (a && o && b) ≡ (o && c)
+    go true p true q true r true = refl
+    go true p true q true r false = refl
+    go true p true q false r o =
+        let h : high ≡ w / 4294967296 = eqb-true _ _ p in
+        let k : low ≡ w % 4294967296 = eqb-true _ _ q in
+        never (eq-eqb (joined_label high low) w (omega arith)) r
+    go true p false q true r o = let j : joined_label high low ≡ w = eqb-true _ _ r in never (eq-eqb low (w % 4294967296) (omega arith)) q
+    go true p false q false r true = refl
+    go true p false q false r false = refl
+    go false p b q true r o = let j : joined_label high low ≡ w = eqb-true _ _ r in never (eq-eqb high (w / 4294967296) (omega arith)) p
+    go false p b q false r true = refl
+    go false p b q false r false = refl
 
 pub any_since : (e : Env) (g x n : ℕ) → list_any (λ i. eqb (name_in e i) x) (range_with_len g (n - g)) ≡ since_in e g n x
 unfolding since_in

@@ -164,6 +164,11 @@ told_fields (Ok f) at = record {
 }
 told_fields (Err r) at = no_fields (number r.question) r.at
 
+-- the same where the fields are filled in place
+abbrev pub told_filled : Result (Unit {0}) Refusal → F.Fields → ℕ → Fields
+told_filled (Ok _) f at = told_fields (Ok f) at
+told_filled (Err r) f at = told_fields (Err r) at
+
 unfoldable pub with_field : Fields → ℕ → ℕ → ℕ → ℕ → Fields
 with_field f at kind low high = record {
   question = f.question;

@@ -31,27 +31,27 @@ loop-x-init c = rw c.begun-b.ensures no_turn
 pub straight_on-far-requires : goal.straight_on-far-requires
 straight_on-far-requires c =
     let a = c.args in
-    led_on _ _ _ (begun-so _ a.s a.c.now _ _ _ _ c.in_default.ensures) c.loop-x.invariant
+    led_on _ _ _ (begun-so _ a.s a.c.now _ _ _ _ (omega arith)) c.loop-x.invariant
 
 pub turn-x-requires : goal.turn-x-requires
 turn-x-requires c =
     let a = c.args in
-    led_on _ _ _ (begun-so _ a.s a.c.now _ _ _ _ c.in_default.ensures) (led_further _ _ c.loop-x.invariant c.straight_on-far.ensures)
+    led_on _ _ _ (begun-so _ a.s a.c.now _ _ _ _ (omega arith)) (led_further _ _ c.loop-x.invariant c.straight_on-far.ensures)
 
 pub returns-then-not-is_forwarded : goal.returns-then-not-is_forwarded
 unfolding batched begun last_of told lent at_side each_side
 returns-then-not-is_forwarded c =
     let a = c.args in
     let l = led_further _ _ c.loop-x.invariant c.straight_on-far.ensures in
-    let asked = sym c.in_default.ensures in
-    led_over _ _ _ (begun-so _ a.s a.c.now _ _ _ _ c.in_default.ensures) l _ c.turn-x.ensures
+    let asked = sym (omega arith) in
+    led_over _ _ _ (begun-so _ a.s a.c.now _ _ _ _ (omega arith)) l _ c.turn-x.ensures
     (sym c.is_forwarded.ensures ∙ c.if-not-is_forwarded.true)
     ∙ same_turns _ _ _ _ _ _ _ ∙ let_in _ _ _ _ asked
 
 pub loop-x-smaller : goal.loop-x-smaller
 loop-x-smaller c =
     let a = c.args in
-    let o = led_on _ _ _ (begun-so _ a.s a.c.now _ _ _ _ c.in_default.ensures) c.loop-x.invariant in
+    let o = led_on _ _ _ (begun-so _ a.s a.c.now _ _ _ _ (omega arith)) c.loop-x.invariant in
     let far = c.straight_on-far.ensures in
     let e = turn_forwarded _ _ _ _ c.turn-x.ensures (sym c.is_forwarded.ensures ∙ c.if-not-is_forwarded.false) in
     omega (arith, led_less _ _ _ o far, turn_less _ _ _ _ (led_on _ _ _ o far) e)

@@ -5,8 +5,11 @@ use Rattle.message.specs.Make.{high_of, made_numbers}
 use Rattle.report.proofs.laws.Lines.{branch_few, line_shown, full, short, message_is, is_made}
 use Rattle.report.proofs.play.say.Goals as goal
 
-pub label-requires : goal.label-requires
-label-requires c = omega (arith, c.from-b.ensures, branch_few c.args.t.words.now c.args.t.sound c.args.k (high_of c.args.named) c.requires.0)
+pub bounds-t-b : goal.bounds-t-b
+bounds-t-b c = omega (arith, c.from-b.ensures, branch_few c.args.t.words.now c.args.t.sound c.args.k (high_of c.args.named) c.requires.0)
+
+pub bounds-t-b-2 : goal.bounds-t-b-2
+bounds-t-b-2 c = omega (arith, c.from-b.ensures, branch_few c.args.t.words.now c.args.t.sound c.args.k (high_of c.args.named) c.requires.0)
 
 pub unwrap-n-requires : goal.unwrap-n-requires
 unwrap-n-requires c =
@@ -20,7 +23,7 @@ returns c =
     let h = high_of a.named in
     let e = ap (λ (n : ℕ). (0, n)) c.from.ensures ∙ ap made_numbers (sym c.unwrap-n.ensures) ∙ c.make.ensures.result_value in
     let f = c.make.ensures.out_after in
-    let l = line_shown a.t.words.now c.args.t.sound a.k h c.requires.0 a.side (c.label.ensures.0 ∙ ap (λ b. word_at a.t.words.now b) c.from-b.ensures) in
+    let l = line_shown a.t.words.now c.args.t.sound a.k h c.requires.0 a.side (c.label_word-label.ensures ∙ ap (λ b. word_at a.t.words.now b) c.from-b.ensures) in
     record {
       full = full a.t.words.now c.args.t.sound a.k h c.requires.0 a.message.now _ c.requires.2 f;
       short = short a.t.words.now c.args.t.sound a.k h c.requires.0 a.message.now _ c.requires.2 f e;

@@ -9,9 +9,9 @@ pub loop-k-init : goal.loop-k-init
 unfolding all
 loop-k-init c = refl
 
-pub returns-then-label : goal.returns-then-label
+pub returns-then-t-k : goal.returns-then-t-k
 unfolding twins
-returns-then-label c =
+returns-then-t-k c =
     let h : twins c.args.t.now c.args.i c.loop-k.k ≡ true = grind (arith, nat_tests) in
     sym (all_no _ _ c.loop-k.k (omega arith) (ap not h))
 

@@ -6,5 +6,5 @@ use Rattle.text.proofs.cursor.Cursor.more_fields.Given as goal
 abbrev pub invariant-loop : goal.invariant-loop
 invariant-loop l = record {
   same : l.self.text ≡ l.fn.self.text;
-  to_come : fields_from l.fn.self.text.now 5 (told_fields (Ok l.fn.start) l.fn.self.at) ≡ fields_from l.fn.self.text.now (5 - l.counter) (told_fields (Ok l.f) l.self.at);
+  to_come : fields_from l.fn.self.text.now 5 (told_fields (Ok l.fn.f) l.fn.self.at) ≡ fields_from l.fn.self.text.now (5 - l.counter) (told_fields (Ok l.f) l.self.at);
 }
