@@ -14,7 +14,7 @@ use table::Question;
 // The question that got a no, and the place of the token it was asked at.
 #[derive(Clone, Copy)]
 pub struct Refusal {
-    // first, so that no answer shares eight bytes with the question's one
+    // The place comes first: behind one byte of a question, what the Ok of a `Result` holds would be copied in odd parts.
     pub at: usize,
     pub question: Question,
 }
